@@ -1,0 +1,4 @@
+pub mod Lengths
+pub mod Strings
+pub mod Refusals
+pub mod Spare
