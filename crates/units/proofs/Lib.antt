@@ -1,1 +1,2 @@
 pub mod SpareLaws
+pub mod StringLaws

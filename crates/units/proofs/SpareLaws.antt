@@ -14,11 +14,12 @@ use lib.Pow.{mod-pow-add, ones-split, ones-lt, shr-mod, shl-shr, shr-shr, pow-ad
 use lib.Seq.{getD-drop, drop-cons, split-at}
 use borrow.Rule.Slice.PartMut.{putMid}
 use Rattle.std.proofs.shelf.Lists.{take-more-set, nil-from-length}
-use Rattle.std.proofs.shelf.Tests.{cases-lt, lt-ltb, le-ltb, eq-eqb, eqb-true, and-parts, cond-both, cond-false, false≢true}
+use Rattle.std.proofs.shelf.Tests.{cases-lt, lt-ltb, le-ltb, eq-eqb, cond-both, cond-false}
 use Rattle.std.proofs.shelf.Ways.{tells}
 use Rattle.std.specs.Orderings.{Decides}
-use Rattle.units.specs.Strings.{Octets}
-use Rattle.units.specs.Spare.{high, cleared, same, clear, bitAt}
+use Rattle.units.specs.Strings.{Octets, same}
+use Rattle.units.proofs.StringLaws.{same-refl, same-true}
+use Rattle.units.specs.Spare.{high, cleared, clear, bitAt}
 
 -- ---- one byte
 
@@ -100,18 +101,6 @@ written-zeros xs i v k ys h e z =
     ∙ ap (λ (back : List ℕ). take i xs ++ (v ∷ back)) (append-nil ys ∙ z ∙ ap (λ (n : ℕ). replicate n 0) e)
 
 -- ---- testing
-
-pub same-refl : (xs : List ℕ) → same xs xs ≡ true
-same-refl [] = refl
-same-refl (x ∷ xs) = rw (eq-eqb x x refl) (same-refl xs)
-
-pub same-true : (xs ys : List ℕ) → same xs ys ≡ true → xs ≡ ys
-same-true [] [] h = refl
-same-true [] (y ∷ ys) h = absurd (false≢true h)
-same-true (x ∷ xs) [] h = absurd (false≢true h)
-same-true (x ∷ xs) (y ∷ ys) h =
-    let both = and-parts (eqb x y) (same xs ys) h in
-    ap₂ (λ (b : ℕ) (bs : List ℕ). b ∷ bs) (eqb-true x y (both .0)) (same-true xs ys (both .1))
 
 same-front : (xs ys zs : List ℕ) → same (xs ++ ys) (xs ++ zs) ≡ same ys zs
 same-front [] ys zs = refl

@@ -28,6 +28,10 @@ number WrongTag = 14
 number FaultyRecording = 15
 number FaultyKey = 16
 
+-- a refusal for a reason, which names a layer and a place
+abbrev pub refusal : Reason → Layer → ℕ → Refusal
+refusal r l p = record { reason = r; layer = l; place = p }
+
 -- a layer as one word
 abbrev pub word : Layer → List ℕ
 word Cover = codes "cover"

@@ -1,9 +1,9 @@
 -- Spare bits: those of a byte string past its length in bits, the most significant bit of the first byte first.
-use mathlib.Core.Bool.{Bool, true, false, _&&_}
+use mathlib.Core.Bool.{Bool}
 use mathlib.Core.List.{List, [], _∷_}
 use Prim.Native.Nat.{ℕ, _-_, _*_, _/_, _%_, _^_}
-use lib.Dec.{eqb}
 use lib.ListN.{getD}
+use Rattle.units.specs.Strings.{same}
 
 -- the n high bits of a byte; the others as zero
 unfoldable pub high : ℕ → ℕ → ℕ
@@ -13,13 +13,6 @@ high n x = x / 2 ^ (8 - n) * 2 ^ (8 - n)
 abbrev pub cleared : ℕ → List ℕ → List ℕ
 cleared n [] = []
 cleared n (x ∷ xs) = high n x ∷ cleared (n - 8) xs
-
--- whether two byte strings are equal
-abbrev pub same : List ℕ → List ℕ → Bool
-same [] [] = true
-same [] (y ∷ ys) = false
-same (x ∷ xs) [] = false
-same (x ∷ xs) (y ∷ ys) = eqb x y && same xs ys
 
 -- whether the spare bits of xs are clear, at a length of n bits
 abbrev pub clear : ℕ → List ℕ → Bool

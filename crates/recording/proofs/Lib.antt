@@ -1,0 +1,3 @@
+pub mod CheckingLaws
+pub mod ReadingLaws
+pub mod RecordLaws
