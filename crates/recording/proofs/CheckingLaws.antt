@@ -1,11 +1,11 @@
--- The records of a recording, one after the other, and where they end.
+-- Where the records of a recording end, and what the verdict says.
 use mathlib.Core.Path.{_≡_, refl, sym, ap, subst, _∙_}
 use mathlib.Core.Bool.{true}
 use mathlib.Core.List.{List, [], _∷_, _++_, append-assoc, append-nil}
 use Prim.Native.Nat.{ℕ, zero, suc, _+_, _≤_, _<_}
 use native.Mathlib.Omega.{arith}
-use lib.ListN.{length, getD, drop, length-append}
-use lib.Seq.{drop-append-add, getD-append-add, getD-drop}
+use lib.ListN.{length, drop, length-append}
+use lib.Seq.{drop-append-add}
 use Rattle.std.proofs.shelf.Lists.{drop-all, nil-from-length}
 use Rattle.std.proofs.shelf.Ways.{tells}
 use Rattle.std.specs.Joined.{joined}
@@ -17,59 +17,13 @@ use Rattle.std.specs.declared.result.Result.{Result}
 use Rattle.std.specs.declared.result.Result.the-variants.{Ok, Err}
 use Rattle.std.specs.shelf.Lists.{All}
 use Rattle.units.specs.Strings.{Octets}
+use Rattle.units.proofs.StringLaws.{octets-drop, octets-rest}
 use Rattle.units.specs.declared.refusals.Refusal.{Refusal}
-use Rattle.recording.specs.Checking.{Sound, checked, end, records, upTo}
-use Rattle.recording.specs.Reading.{Moved, fault, step, stepAt, stepped}
+use Rattle.recording.specs.Checking.{Sound, checked, end}
+use Rattle.recording.specs.Reading.{Moved, fault, records, step, stepAt, stepped, upTo}
 use Rattle.recording.specs.Records.{Entry, keystream, remark, WellFormed, Begins, first, written}
-use Rattle.recording.proofs.ReadingLaws.{step-inside}
+use Rattle.recording.proofs.ReadingLaws.{Found, records-none, records-some}
 use Rattle.recording.proofs.RecordLaws.{first-there, there-first}
-
-abbrev Found : Type 0
-Found = Option (Entry × List ℕ)
-
-octets-rest : (xs front rest : List ℕ) → Octets xs → xs ≡ front ++ rest → Octets rest
-octets-rest xs front rest o e k =
-    let same = ap (λ (l : List ℕ). getD l (length front + k) 0) e ∙ getD-append-add front rest k 0 in
-    let below = o (length front + k) in
-    omega arith
-
-written-some : (e : Entry) → 1 ≤ length (written e)
-written-some (keystream nonce blocks) = omega arith
-written-some (remark text) = omega arith
-
--- what is left after a record is shorter
-rest-shorter : (xs : List ℕ) (e : Entry) (rest : List ℕ) → Begins e rest xs → length rest < length xs
-rest-shorter xs e rest there = omega (arith, ap length (there .parts), length-append (written e) rest, written-some e)
-
--- any number of records that is large enough gives the same
-upTo-same : (n m : ℕ) (xs : List ℕ) → Octets xs → length xs ≤ n → length xs ≤ m → upTo n xs ≡ upTo m xs
-upTo-same zero zero xs o h k = refl
-upTo-same zero (suc m) xs o h k = let none = nil-from-length xs (omega arith) in rw none refl
-upTo-same (suc n) zero xs o h k = let none = nil-from-length xs (omega arith) in rw none refl
-upTo-same (suc n) (suc m) xs o h k = go (λ ys p less. upTo-same n m ys p (omega arith) (omega arith)) (first xs) refl
-  where
-    go : ((ys : List ℕ) → Octets ys → length ys < length xs → upTo n ys ≡ upTo m ys) → (r : Found) → first xs ≡ r
-        → _≡_ {A = List Entry} (elim r [ Some p ↦ p .0 ∷ upTo n (p .1) | None ↦ [] ]) (elim r [ Some p ↦ p .0 ∷ upTo m (p .1) | None ↦ [] ])
-    go again (Some p) e =
-        let there = first-there xs (p .0) (p .1) o e in
-        ap (λ (l : List Entry). p .0 ∷ l)
-        (again (p .1) (octets-rest xs (written (p .0)) (p .1) o (there .parts)) (rest-shorter xs (p .0) (p .1) there))
-    go again None e = refl
-
-pub records-some : (xs : List ℕ) (e : Entry) (rest : List ℕ) → Octets xs → Begins e rest xs → records xs ≡ e ∷ records rest
-unfolding records
-records-some [] e rest o there = let less = rest-shorter [] e rest there in absurd (omega arith)
-records-some (x ∷ xs) e rest o there =
-    let found : first (x ∷ xs) ≡ Some (e, rest) = ap first (there .parts) ∙ there-first e rest (there .formed) in
-    let less = rest-shorter (x ∷ xs) e rest there in
-    ap (λ (r : Found). elim r [ Some p ↦ p .0 ∷ upTo (length xs) (p .1) | None ↦ [] ]) found
-    ∙ ap (λ (l : List Entry). e ∷ l)
-    (upTo-same (length xs) (length rest) rest (octets-rest (x ∷ xs) (written e) rest o (there .parts)) (omega arith) (omega arith))
-
-pub records-none : (xs : List ℕ) → first xs ≡ None → records xs ≡ []
-unfolding records
-records-none [] e = refl
-records-none (x ∷ xs) e = ap (λ (r : Found). elim r [ Some p ↦ p .0 ∷ upTo (length xs) (p .1) | None ↦ [] ]) e
 
 pub end-some : (xs : List ℕ) (e : Entry) (rest : List ℕ) → Octets xs → Begins e rest xs → end xs ≡ length (written e) + end rest
 unfolding end
@@ -86,9 +40,6 @@ end-none xs e = ap (λ (l : List Entry). length (joined written l)) (records-non
 pub record Reached (xs : List ℕ) (at : ℕ) : Type 0 where
   pub within : at ≤ length xs
   pub left : end xs ≡ at + end (drop at xs)
-
-octets-drop : (xs : List ℕ) (at : ℕ) → Octets xs → Octets (drop at xs)
-octets-drop xs at o k = rw getD-drop (o (at + k))
 
 pub reached-more : (xs : List ℕ) (from to : ℕ) (e : Entry) → Octets xs → Reached xs from → Moved xs from to e → Reached xs to
 reached-more xs from to e o r m =

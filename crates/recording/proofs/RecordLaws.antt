@@ -16,7 +16,7 @@ use Rattle.std.specs.declared.option.Option.{Option}
 use Rattle.std.specs.declared.option.Option.the-variants.{Some, None}
 use Rattle.std.specs.shelf.Lists.{All}
 use Rattle.units.specs.Strings.{Octets, same, two, twoAt}
-use Rattle.units.proofs.StringLaws.{length-two, same-true, two-again, two-read}
+use Rattle.units.proofs.StringLaws.{length-two, octets-drop, same-true, two-again, two-read}
 use Rattle.recording.specs.Records.{Entry, keystream, remark, keystreamMark, remarkMark, written, WellFormed, Begins, Faithful, first, firstKeystream, firstRemark}
 
 -- ---- what the code cuts out
@@ -127,7 +127,7 @@ remark-there (n ∷ xs) e rest o found =
 
 pub first-there : (xs : List ℕ) (e : Entry) (rest : List ℕ) → Octets xs → first xs ≡ Some (e, rest) → Begins e rest xs
 first-there xs e rest o found =
-    let later : Octets (drop 2 xs) = λ k. rw getD-drop (o (2 + k)) in
+    let later = octets-drop xs 2 o in
     ⊎-elim
     (λ (m : same (take 2 xs) keystreamMark ≡ true).
     let there = keystream-there (drop 2 xs) e rest later (sym (cond-true _ (firstKeystream (drop 2 xs)) (cond (same (take 2 xs) remarkMark) (firstRemark (drop 2 xs)) None) m) ∙ found) in

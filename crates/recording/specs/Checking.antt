@@ -1,19 +1,17 @@
 -- The check of a whole recording.
 use mathlib.Core.Bool.{cond}
-use mathlib.Core.List.{List, [], _∷_}
+use mathlib.Core.List.{List}
 use mathlib.Core.Path.{_≡_}
-use Prim.Native.Nat.{ℕ, zero, suc, _≤_}
+use Prim.Native.Nat.{ℕ, _≤_}
 use lib.Dec.{eqb, ltb}
 use lib.ListN.{length}
 use Rattle.std.specs.Joined.{joined}
-use Rattle.std.specs.declared.option.Option.{Option}
-use Rattle.std.specs.declared.option.Option.the-variants.{Some, None}
 use Rattle.std.specs.declared.result.Result.{Result}
 use Rattle.std.specs.declared.result.Result.the-variants.{Ok, Err}
 use Rattle.std.specs.shelf.Lists.{All}
 use Rattle.units.specs.declared.refusals.Refusal.{Refusal}
-use Rattle.recording.specs.Reading.{fault}
-use Rattle.recording.specs.Records.{Entry, WellFormed, first, written}
+use Rattle.recording.specs.Reading.{fault, records}
+use Rattle.recording.specs.Records.{Entry, WellFormed, written}
 
 -- at most 65,536 bytes, and a run of well-formed records
 pub record Sound (xs : List ℕ) : Type 0 where
@@ -21,15 +19,6 @@ pub record Sound (xs : List ℕ) : Type 0 where
   pub entries : List Entry
   pub formed : All WellFormed entries
   pub run : xs ≡ joined written entries
-
--- the first n records of xs, or those before the first fault
-abbrev pub upTo : ℕ → List ℕ → List Entry
-upTo zero xs = []
-upTo (suc n) xs = elim (first xs) [ Some p ↦ p .0 ∷ upTo n (p .1) | None ↦ [] ]
-
--- the records of xs, or those before the first fault; a record has at least one byte
-unfoldable pub records : List ℕ → List Entry
-records xs = upTo (length xs) xs
 
 -- where the records of xs end
 unfoldable pub end : List ℕ → ℕ

@@ -17,6 +17,15 @@ use Rattle.units.specs.declared.refusals.Refusal.{Refusal}
 use Rattle.recording.specs.declared.records.Record.{Record}
 use Rattle.recording.specs.Records.{Entry, WellFormed, Begins, entry, first, written}
 
+-- the first n records of xs, or those before the first fault
+abbrev pub upTo : ℕ → List ℕ → List Entry
+upTo zero xs = []
+upTo (suc n) xs = elim (first xs) [ Some p ↦ p .0 ∷ upTo n (p .1) | None ↦ [] ]
+
+-- the records of xs, or those before the first fault; a record has at least one byte
+unfoldable pub records : List ℕ → List Entry
+records xs = upTo (length xs) xs
+
 -- 15: a fault of the recording at a place
 abbrev pub fault : ℕ → Refusal
 fault place = refusal FaultyRecording Recording place
@@ -51,8 +60,9 @@ pub record Moved (xs : List ℕ) (from to : ℕ) (e : Entry) : Type 0 where
   pub there : drop from xs ≡ written e ++ drop to xs
   pub by : to ≡ from + length (written e)
   pub within : to ≤ length xs
+  pub next : records (drop from xs) ≡ e ∷ records (drop to xs)
 
--- A record is handed out where it stands, and the reading goes on right behind it. It ends at the end alone. At a
+-- A record is handed out where it stands, and the reading goes on right behind it, to the next record. It ends at the end alone. At a
 -- fault it stays, and there is a fault only where no record stands or the recording is too long.
 abbrev pub Lawful : List ℕ → ℕ → Result (Option Entry) Refusal → ℕ → Type 0
 Lawful xs from (Ok (Some e)) to = Moved xs from to e

@@ -3,11 +3,13 @@ ghost use mathlib.Core.Path.{_≡_};
 ghost use Prim.Native.Nat.{_≤_};
 ghost use denote.Ref.{now as behind};
 ghost use lib.ListN.{length};
+ghost use Rattle.units.specs.Strings.{Octets};
 ghost use Rattle.recording.specs.Reading.{Lawful, answered, fault, step, stepped};
 use super::records::Record;
 use units::Layer;
 use units::Reason;
 use units::Refusal;
+use units::octets;
 
 /// The most bytes that a recording has.
 pub const LONGEST: usize = 65_536;
@@ -18,6 +20,7 @@ pub struct Reader<'a> {
     bytes: &'a [u8],
     offset: usize,
     ghost within: { offset ≤ length (behind bytes) },
+    ghost octets: { Octets (behind bytes) },
 }
 
 impl<'a> Reader<'a> {
@@ -26,6 +29,7 @@ impl<'a> Reader<'a> {
         ensures bytes { λ r. ⌜ r .bytes .now ≡ now (bytes .entry) ⌝ }
         ensures offset { λ r. ⌜ r .offset ≡ 0 ⌝ }
     {
+        octets(bytes);
         Reader { bytes, offset: 0 }
     }
 

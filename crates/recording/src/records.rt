@@ -6,7 +6,6 @@
 ghost use mathlib.Core.Path.{_≡_};
 ghost use Rattle.std.specs.Options.{mapped};
 ghost use Rattle.recording.specs.Records.{Faithful, first, firstKeystream, firstRemark, parsed};
-use units::octets;
 
 /// What begins a keystream record.
 const KEYSTREAM_MARK: &[u8; 2] = b"KS";
@@ -37,7 +36,6 @@ impl<'a> Record<'a> {
         ensures value { λ r. ⌜ mapped parsed r ≡ first (now (bytes .entry)) ⌝ }
         ensures faithful { λ r. ⌜ Faithful (now (bytes .entry)) (mapped parsed r) ⌝ }
     {
-        octets(bytes);
         let (mark, rest) = bytes.split_first_chunk::<2>()?;
         match mark {
             KEYSTREAM_MARK => keystream(rest),

@@ -1,4 +1,4 @@
--- Byte strings that are equal, and numbers in them.
+-- Parts of byte strings, byte strings that are equal, and numbers in them.
 use mathlib.Core.Path.{_≡_, refl, sym, ap, ap₂, _∙_}
 use mathlib.Core.Bool.{true}
 use mathlib.Core.List.{List, [], _∷_, _++_}
@@ -6,9 +6,18 @@ use Prim.Native.Nat.{ℕ, suc, _+_, _*_, _/_, _%_, _≤_, _<_}
 use native.Mathlib.Omega.{arith}
 use lib.Dec.{eqb}
 use lib.ListN.{length, getD, take, drop}
-use lib.Seq.{drop-cons, getD-append-add}
+use lib.Seq.{drop-cons, getD-append-add, getD-drop}
 use Rattle.std.proofs.shelf.Tests.{and-parts, eq-eqb, eqb-true, false≢true}
 use Rattle.units.specs.Strings.{Octets, same, two, twoAt}
+
+pub octets-rest : (xs front rest : List ℕ) → Octets xs → xs ≡ front ++ rest → Octets rest
+octets-rest xs front rest o e k =
+    let same = ap (λ (l : List ℕ). getD l (length front + k) 0) e ∙ getD-append-add front rest k 0 in
+    let below = o (length front + k) in
+    omega arith
+
+pub octets-drop : (xs : List ℕ) (at : ℕ) → Octets xs → Octets (drop at xs)
+octets-drop xs at o k = rw getD-drop (o (at + k))
 
 pub same-refl : (xs : List ℕ) → same xs xs ≡ true
 same-refl [] = refl

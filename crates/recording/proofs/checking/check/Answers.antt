@@ -9,6 +9,7 @@ use Rattle.std.specs.declared.option.Option.{Option}
 use Rattle.std.specs.declared.option.Option.the-variants.{Some, None}
 use Rattle.std.specs.declared.result.Result.{Result}
 use Rattle.std.specs.declared.result.Result.the-variants.{Ok, Err}
+use Rattle.units.specs.Strings.{Octets}
 use Rattle.units.specs.declared.refusals.Refusal.{Refusal}
 use Rattle.recording.specs.Checking.{Sound, checked}
 use Rattle.recording.specs.Reading.{Lawful, step, stepped}
@@ -23,6 +24,7 @@ returns-in-Break--record c =
     let at = c .loop-record .reader .offset in
     let told = c .in-Break--record .ensures tt in
     let inv = c .loop-record .inv in
+    let octets = subst Octets (inv .0) (c .loop-record .reader .octets) in
     let exit = err-from-errBy (c .from-residual .result) (c .from-residual .ensures .1) in
     let why = c .in-Break--record .field-0 .0 in
     let value : c .from-residual .result ≡ checked xs =
@@ -32,8 +34,8 @@ returns-in-Break--record c =
     in
     record {
       value = value;
-      exact = subst (λ (r : Result (Unit {0}) Refusal). Decides (isOk r) (Sound xs)) (sym value) (checked-exact xs (c .octets .ensures));
-      rewritten = λ ok. checked-rewritten xs (c .octets .ensures) (ap isOk (sym value) ∙ ok);
+      exact = subst (λ (r : Result (Unit {0}) Refusal). Decides (isOk r) (Sound xs)) (sym value) (checked-exact xs octets);
+      rewritten = λ ok. checked-rewritten xs octets (ap isOk (sym value) ∙ ok);
     }
 
 pub loop-record-again : need.loop-record-again
@@ -42,12 +44,13 @@ loop-record-again c =
     let at = c .loop-record .reader .offset in
     let told = c .in-Continue--record .ensures tt in
     let inv = c .loop-record .inv in
+    let octets = subst Octets (inv .0) (c .loop-record .reader .octets) in
     let to = c .next-record .last .self .offset in
     let moved =
     subst (λ (l : List ℕ). Lawful l at (Ok (Some (entry (c .in-Some .-record)))) to) (inv .0)
     (subst (λ (o : Option Record). Lawful (c .loop-record .reader .bytes .now) at (Ok (mapped entry o)) to) (c .in-Some .is) (told .lawful))
     in
-    (told .same ∙ inv .0, reached-more xs at to (entry (c .in-Some .-record)) (c .octets .ensures) (inv .1) moved)
+    (told .same ∙ inv .0, reached-more xs at to (entry (c .in-Some .-record)) octets (inv .1) moved)
 
 pub returns : need.returns
 returns c =
@@ -55,6 +58,7 @@ returns c =
     let at = c .loop-record .reader .offset in
     let told = c .in-Continue--record .ensures tt in
     let inv = c .loop-record .inv in
+    let octets = subst Octets (inv .0) (c .loop-record .reader .octets) in
     let to = c .next-record .last .self .offset in
     let ended = subst (λ (o : Option Record). Lawful (c .loop-record .reader .bytes .now) at (Ok (mapped entry o)) to) (c .in-rest .is) (told .lawful) in
     let value : Ok tt ≡ checked xs =
@@ -66,6 +70,6 @@ returns c =
     in
     record {
       value = value;
-      exact = subst (λ (r : Result (Unit {0}) Refusal). Decides (isOk r) (Sound xs)) (sym value) (checked-exact xs (c .octets .ensures));
-      rewritten = λ ok. checked-rewritten xs (c .octets .ensures) (ap isOk (sym value) ∙ ok);
+      exact = subst (λ (r : Result (Unit {0}) Refusal). Decides (isOk r) (Sound xs)) (sym value) (checked-exact xs octets);
+      rewritten = λ ok. checked-rewritten xs octets (ap isOk (sym value) ∙ ok);
     }

@@ -43,5 +43,5 @@ returns c =
     record {
       step = ap (stepAt (length xs) at) found ∙ sym (step-inside xs at (omega arith) (λ e. omega arith));
       same = refl;
-      lawful = moved xs at (entry (c .in-Some .record)) (c .in-Some .rest .now) (omega arith) (there (need.at·returns c .In-Some));
+      lawful = moved xs at (entry (c .in-Some .record)) (c .in-Some .rest .now) (c .args .self .now .octets) (omega arith) (there (need.at·returns c .In-Some));
     }
