@@ -1,0 +1,3 @@
+//! Examples and boundaries of the library crates. The contracts say what holds for every input; these run the code.
+mod recordings;
+mod refusals;
