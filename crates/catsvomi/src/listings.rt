@@ -26,12 +26,12 @@ impl Listing {
 pub impl fmt::Display for Listing as ListingDisplay {
     fn fmt<W: fmt::Write>(&self, f: &mut fmt::Formatter<W>) -> fmt::Result {
         let mut reader = Reader::new(self.data.as_slice());
-        let mut offset = 0;
+        let mut offset = reader.offset().0;
         while let Ok(Some(record)) = reader.next_record() {
             write!(f, "  {offset} ")?;
             write_record(f, record)?;
             writeln!(f)?;
-            offset = reader.offset();
+            offset = reader.offset().0;
         }
         match self.verdict {
             Ok(()) => f.write_str("ok"),

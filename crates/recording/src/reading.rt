@@ -6,6 +6,7 @@ ghost use lib.ListN.{length};
 ghost use Rattle.units.specs.Strings.{Octets};
 ghost use Rattle.recording.specs.Reading.{Lawful, answered, fault, step, stepped};
 use super::records::Record;
+use units::Bytes;
 use units::Layer;
 use units::Reason;
 use units::Refusal;
@@ -26,7 +27,7 @@ pub struct Reader<'a> {
 impl<'a> Reader<'a> {
     /// A reading that begins with the first record.
     pub fn new(bytes: &'a [u8]) -> Reader<'a>
-        ensures bytes { λ r. ⌜ r .bytes .now ≡ now (bytes .entry) ⌝ }
+        ensures bytes { λ r. ⌜ r .bytes ≡ bytes .entry ⌝ }
         ensures offset { λ r. ⌜ r .offset ≡ 0 ⌝ }
     {
         octets(bytes);
@@ -34,17 +35,17 @@ impl<'a> Reader<'a> {
     }
 
     /// The offset of the record that comes next.
-    pub fn offset(&self) -> usize
-        ensures { λ r. ⌜ r ≡ now (self .entry) .offset ⌝ }
+    pub fn offset(&self) -> Bytes
+        ensures { λ r. ⌜ r .0 ≡ now (self .entry) .offset ⌝ }
     {
-        self.offset
+        Bytes(self.offset)
     }
 
     /// The next record, or nothing at the end. A fault is refused with the record's offset as place; a recording that
     /// is too long is refused before anything else, with its limit as place.
     pub fn next_record(&mut self) -> Result<Option<Record<'a>>, Refusal>
         ensures step { λ r. ⌜ step (answered r) (now (self .exit) .offset) ≡ stepped (now (self .entry) .bytes .now) (now (self .entry) .offset) ⌝ }
-        ensures same { λ _. ⌜ now (self .exit) .bytes .now ≡ now (self .entry) .bytes .now ⌝ }
+        ensures same { λ _. ⌜ now (self .exit) .bytes ≡ now (self .entry) .bytes ⌝ }
         ensures lawful { λ r. ⌜ Lawful (now (self .entry) .bytes .now) (now (self .entry) .offset) (answered r) (now (self .exit) .offset) ⌝ }
     {
         if self.bytes.len() > LONGEST {

@@ -13,6 +13,9 @@ const KEYSTREAM_MARK: &[u8; 2] = b"KS";
 /// What begins a remark.
 const REMARK_MARK: &[u8; 2] = b"RM";
 
+/// The fewest blocks that a keystream record has.
+const FEWEST_BLOCKS: usize = 1;
+
 /// The most blocks that a keystream record has.
 const MOST_BLOCKS: usize = 1_024;
 
@@ -52,7 +55,7 @@ fn keystream(bytes: &[u8]) -> Option<(Record<'_>, &[u8])>
     let (nonce, rest) = bytes.split_first_chunk::<12>()?;
     let (count, rest) = rest.split_first_chunk::<2>()?;
     let count = usize::from(u16::from_be_bytes(*count));
-    if count < 1 || count > MOST_BLOCKS {
+    if count < FEWEST_BLOCKS || count > MOST_BLOCKS {
         return None;
     }
     let (body, rest) = rest.split_at_checked(16 * count)?;

@@ -92,7 +92,7 @@ mod tests {
         let mut reader = Reader::new(bytes.as_slice());
         check_eq(reader.next_record().is_ok(), true)?;
         for _ in 0..3 {
-            check_eq(reader.offset(), 8)?;
+            check_eq(reader.offset().0, 8)?;
             check_eq(reader.next_record().err(), fault(8).err())?;
         }
         Ok(())
@@ -108,6 +108,6 @@ mod tests {
         check_eq(check(bytes.as_slice()), fault(65_536))?;
         let mut reader = Reader::new(bytes.as_slice());
         check_eq(reader.next_record().err(), fault(65_536).err())?;
-        check_eq(reader.offset(), 0)
+        check_eq(reader.offset().0, 0)
     }
 }

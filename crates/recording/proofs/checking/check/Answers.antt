@@ -1,6 +1,7 @@
 use mathlib.Core.Path.{_≡_, refl, sym, ap, subst, _∙_}
 use mathlib.Core.List.{List}
 use Prim.Native.Nat.{ℕ}
+use denote.Ref.{RefT}
 use Rattle.std.proofs.shelf.Results.{err-from-errBy}
 use Rattle.std.specs.Options.{mapped}
 use Rattle.std.specs.Orderings.{Decides}
@@ -50,7 +51,7 @@ loop-record-again c =
     subst (λ (l : List ℕ). Lawful l at (Ok (Some (entry (c .in-Some .-record)))) to) (inv .0)
     (subst (λ (o : Option Record). Lawful (c .loop-record .reader .bytes .now) at (Ok (mapped entry o)) to) (c .in-Some .is) (told .lawful))
     in
-    (told .same ∙ inv .0, reached-more xs at to (entry (c .in-Some .-record)) octets (inv .1) moved)
+    (ap (λ (r : RefT (List ℕ)). r .now) (told .same) ∙ inv .0, reached-more xs at to (entry (c .in-Some .-record)) octets (inv .1) moved)
 
 pub returns : need.returns
 returns c =

@@ -18,8 +18,8 @@ count-is c =
     let cut = c .in-Continue-count .ensures tt .cases .0 ∙ ap (take 2) (c .in-Continue-nonce .ensures tt .cases .1) in
     c .from-count .ensures ∙ c .from-be-bytes .ensures ∙ two-cut (c .args .bytes .now) (c .in-Continue-count .count .now) 12 cut
 
-pub returns-then-count-lt1 : need.returns-then-count-lt1
-returns-then-count-lt1 c = let n = count-is (need.at·returns-then-count-lt1 c .After-from-count) in grind (arith, tells)
+pub returns-then-count-lt-FEWEST-BLOCKS : need.returns-then-count-lt-FEWEST-BLOCKS
+returns-then-count-lt-FEWEST-BLOCKS c = let n = count-is (need.at·returns-then-count-lt-FEWEST-BLOCKS c .After-from-count) in grind (arith, tells)
 
 pub returns-in-Break-body : need.returns-in-Break-body
 returns-in-Break-body c =
