@@ -7,7 +7,7 @@ use native.Mathlib.Omega.{arith}
 use lib.ListN.{length, drop, length-append}
 use lib.Seq.{drop-append-add}
 use Rattle.std.proofs.shelf.Lists.{drop-all, nil-from-length}
-use Rattle.std.proofs.shelf.Ways.{tells}
+use Rattle.std.proofs.shelf.Ways.{decides-at, tells}
 use Rattle.std.specs.Joined.{joined}
 use Rattle.std.specs.Orderings.{Decides}
 use Rattle.std.specs.Results.{isOk}
@@ -48,18 +48,28 @@ reached-more xs from to e o r m =
     in
     record { within = m .within; left = r .left ∙ omega (arith, m .by) }
 
-pub check-end : (xs : List ℕ) (at : ℕ) → Reached xs at → step (Ok None) at ≡ stepped xs at → Ok tt ≡ checked xs
-check-end xs at r e =
+ended : (xs : List ℕ) (at : ℕ) → Reached xs at → step (Ok None) at ≡ stepped xs at → Ok tt ≡ checked xs
+ended xs at r e =
     let none : drop (length xs) xs ≡ [] = drop-all (length xs) xs (omega arith) in
     let empty : end (drop (length xs) xs) ≡ 0 = ap end none ∙ end-none [] refl in
     grind (arith, tells)
 
-pub check-fault : (xs : List ℕ) (at : ℕ) (why : Refusal) → Reached xs at → step (Err why) at ≡ stepped xs at → Err why ≡ checked xs
-check-fault xs at why r e = go (first (drop at xs)) refl
+faulted : (xs : List ℕ) (at : ℕ) (why : Refusal) → Reached xs at → step (Err why) at ≡ stepped xs at → Err why ≡ checked xs
+faulted xs at why r e = go (first (drop at xs)) refl
   where
     go : (f : Found) → first (drop at xs) ≡ f → Err why ≡ checked xs
     go (Some p) found = grind (arith, tells)
     go None found = let nothing : end (drop at xs) ≡ 0 = end-none (drop at xs) found in grind (arith, tells)
+
+-- a step of a reading of the bytes ys, which are xs, that has come to `at` and stays there
+module _ (xs ys : List ℕ) (at to : ℕ) (same : ys ≡ xs) (r : Reached xs at) (stays : to ≡ at) where
+  pub check-end : (given : Option Entry) → given ≡ None → step (Ok given) to ≡ stepped ys at → Ok tt ≡ checked xs
+  check-end given none e =
+      ended xs at r
+      ((λ i. step (Ok (sym none i)) (sym stays i)) ∙ e ∙ ap (λ (l : List ℕ). stepped l at) same)
+
+  pub check-fault : (why : Refusal) → step (Err why) to ≡ stepped ys at → Err why ≡ checked xs
+  check-fault why e = faulted xs at why r (ap (step (Err why)) (sym stays) ∙ e ∙ ap (λ (l : List ℕ). stepped l at) same)
 
 -- ---- what the verdict says
 
@@ -104,26 +114,34 @@ accepted xs h = (grind (arith, tells), grind (arith, tells))
 accepts : (xs : List ℕ) → length xs ≤ 65536 → end xs ≡ length xs → isOk (checked xs) ≡ true
 accepts xs short whole = grind (arith, tells)
 
-pub checked-rewritten : (xs : List ℕ) → Octets xs → isOk (checked xs) ≡ true → joined written (records xs) ≡ xs
+whole : (xs : List ℕ) → Octets xs → isOk (checked xs) ≡ true → joined written (records xs) ≡ xs
 unfolding end records
-checked-rewritten xs o h =
-    let whole = accepted xs h .1 in
+whole xs o h =
+    let ends = accepted xs h .1 in
     let none : drop (end xs) xs ≡ [] = drop-all (end xs) xs (omega arith) in
     sym (append-nil (joined written (records xs)))
     ∙ ap (λ (l : List ℕ). joined written (records xs) ++ l) (sym none)
     ∙ front (length xs) xs o
 
-pub checked-exact : (xs : List ℕ) → Octets xs → Decides (isOk (checked xs)) (Sound xs)
-unfolding records end
-checked-exact xs o = (
+sound : (xs : List ℕ) → Octets xs → Decides (isOk (checked xs)) (Sound xs)
+unfolding end records
+sound xs o = (
   λ h.
       record {
         short = accepted xs h .0;
         entries = records xs;
         formed = formed (length xs) xs o;
-        run = sym (checked-rewritten xs o h);
+        run = sym (whole xs o h);
       },
-  λ sound.
-      let whole : end xs ≡ length xs = ap (λ (l : List Entry). length (joined written l)) (run-records xs (sound .entries) o (sound .formed) (sound .run)) ∙ ap length (sym (sound .run)) in
-      accepts xs (sound .short) whole,
+  λ s.
+      let found = run-records xs (s .entries) o (s .formed) (s .run) in
+      accepts xs (s .short) (ap (λ (l : List Entry). length (joined written l)) found ∙ ap length (sym (s .run))),
 )
+
+-- the same of an answer that is the verdict
+module _ (xs : List ℕ) (answer : Result (Unit {0}) Refusal) (o : Octets xs) (e : answer ≡ checked xs) where
+  pub answer-exact : Decides (isOk answer) (Sound xs)
+  answer-exact = decides-at (isOk answer) (isOk (checked xs)) (ap isOk e) (sound xs o)
+
+  pub answer-rewritten : isOk answer ≡ true → joined written (records xs) ≡ xs
+  answer-rewritten h = whole xs o (ap isOk (sym e) ∙ h)

@@ -40,23 +40,47 @@ chunked-take (suc n) xs =
     ∙ ap (chunked 16 n) (drop-take 16 (16 * n) xs)
     ∙ chunked-take n (drop 16 xs))
 
-pub blocks-cut : (n : ℕ) (xs bytes : List ℕ) → bytes ≡ take (16 * n) xs → 16 * n ≤ length xs → chunked 16 (length bytes / 16) bytes ≡ chunked 16 n xs
+blocks-cut : (n : ℕ) (xs bytes : List ℕ) → bytes ≡ take (16 * n) xs → 16 * n ≤ length xs → chunked 16 (length bytes / 16) bytes ≡ chunked 16 n xs
 blocks-cut n xs bytes e h =
     let long : length bytes ≡ 16 * n = ap length e ∙ length-take-le (16 * n) xs h in
     let count : length bytes / 16 ≡ n = omega arith in
     ap₂ (chunked 16) count e ∙ chunked-take n xs
 
-pub keystream-found : (xs : List ℕ) (n : ℕ) → n ≡ twoAt xs 12 → 1 ≤ n → n ≤ 1024 → 14 + 16 * n ≤ length xs → Some (keystream (take 12 xs) (chunked 16 n (drop 14 xs)), drop (14 + 16 * n) xs) ≡ firstKeystream xs
+keystream-found : (xs : List ℕ) (n : ℕ) → n ≡ twoAt xs 12 → 1 ≤ n → n ≤ 1024 → 14 + 16 * n ≤ length xs → Some (keystream (take 12 xs) (chunked 16 n (drop 14 xs)), drop (14 + 16 * n) xs) ≡ firstKeystream xs
 keystream-found xs n e low high long =
     let a = le-leb 1 (twoAt xs 12) (omega arith) in
     let b = le-leb (twoAt xs 12) 1024 (omega arith) in
     let c = le-leb (14 + 16 * twoAt xs 12) (length xs) (omega arith) in
     ap (λ (k : ℕ). Some (keystream (take 12 xs) (chunked 16 k (drop 14 xs)), drop (14 + 16 * k) xs)) e ∙ rw (a, b, c) refl
 
-pub remark-found : (xs : List ℕ) (n : ℕ) → n ≡ getD xs 0 0 → 1 + n ≤ length xs → Some (remark (take n (drop 1 xs)), drop (1 + n) xs) ≡ firstRemark xs
+-- a keystream record cut into nonce, block count, body and what comes after
+pub keystream-cut : (xs nonce later rest body after : List ℕ) (blocks : List (List ℕ)) (n : ℕ)
+    → nonce ≡ take 12 xs → later ≡ drop 12 xs → rest ≡ drop 2 later → length rest + 14 ≡ length xs
+    → n ≡ twoAt xs 12 → 1 ≤ n → n ≤ 1024 → 16 * n ≤ length rest
+    → body ≡ take (16 * n) rest → blocks ≡ chunked 16 (length body / 16) body → after ≡ drop (16 * n) rest
+    → Some (keystream nonce blocks, after) ≡ firstKeystream xs
+keystream-cut xs nonce later rest body after blocks n front second third long count low high fits inside split back =
+    let behind : rest ≡ drop 14 xs = third ∙ ap (drop 2) second ∙ drop-drop 2 12 xs in
+    let whole : blocks ≡ chunked 16 n (drop 14 xs) = split ∙ blocks-cut n rest body inside fits ∙ ap (chunked 16 n) behind in
+    let end : after ≡ drop (14 + 16 * n) xs = back ∙ ap (drop (16 * n)) behind ∙ drop-drop (16 * n) 14 xs in
+    (λ i. Some (keystream (front i) (whole i), end i)) ∙ keystream-found xs n count low high (omega arith)
+
+remark-found : (xs : List ℕ) (n : ℕ) → n ≡ getD xs 0 0 → 1 + n ≤ length xs → Some (remark (take n (drop 1 xs)), drop (1 + n) xs) ≡ firstRemark xs
 remark-found xs n e long =
     let a = le-leb (1 + getD xs 0 0) (length xs) (omega arith) in
     ap (λ (k : ℕ). Some (remark (take k (drop 1 xs)), drop (1 + k) xs)) e ∙ rw a refl
+
+-- a remark cut into its length byte, its text and what comes after
+pub remark-cut : (xs rest text after : List ℕ) (byte n : ℕ)
+    → xs ≡ byte ∷ rest → n ≡ byte → n ≤ length rest → text ≡ take n rest → after ≡ drop n rest
+    → Some (remark text, after) ≡ firstRemark xs
+remark-cut xs rest text after byte n parts count fits front back =
+    let long : length xs ≡ suc (length rest) = ap length parts in
+    let first-is : n ≡ getD xs 0 0 = count ∙ ap (λ (l : List ℕ). getD l 0 0) (sym parts) in
+    let rest-is : rest ≡ drop 1 xs = ap (drop 1) (sym parts) in
+    let whole : text ≡ take n (drop 1 xs) = front ∙ ap (take n) rest-is in
+    let end : after ≡ drop (1 + n) xs = back ∙ ap (drop n) rest-is ∙ drop-drop n 1 xs in
+    (λ i. Some (remark (whole i), end i)) ∙ remark-found xs n first-is (omega arith)
 
 -- ---- what is found is there
 

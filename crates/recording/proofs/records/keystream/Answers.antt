@@ -1,14 +1,9 @@
 use mathlib.Core.Path.{_≡_, ap, _∙_}
-use Prim.Native.Nat.{_+_, _-_, _*_}
 use native.Mathlib.Omega.{arith}
-use lib.ListN.{length, take, drop, length-drop}
-use lib.Seq.{drop-drop}
+use lib.ListN.{take}
 use Rattle.std.proofs.shelf.Ways.{tells}
-use Rattle.std.specs.Vectors.{chunked}
-use Rattle.std.specs.declared.option.Option.the-variants.{Some}
 use Rattle.units.specs.Strings.{twoAt}
-use Rattle.recording.specs.Records.{keystream}
-use Rattle.recording.proofs.RecordLaws.{blocks-cut, keystream-found, two-cut}
+use Rattle.recording.proofs.RecordLaws.{keystream-cut, two-cut}
 use Rattle.recording.proofs.records.keystream.Needs as need
 use Rattle.recording.proofs.records.keystream.Needs.{After-from-count}
 
@@ -19,7 +14,9 @@ count-is c =
     c .from-count .ensures ∙ c .from-be-bytes .ensures ∙ two-cut (c .args .bytes .now) (c .in-Continue-count .count .now) 12 cut
 
 pub returns-then-count-lt-FEWEST-BLOCKS : need.returns-then-count-lt-FEWEST-BLOCKS
-returns-then-count-lt-FEWEST-BLOCKS c = let n = count-is (need.at·returns-then-count-lt-FEWEST-BLOCKS c .After-from-count) in grind (arith, tells)
+returns-then-count-lt-FEWEST-BLOCKS c =
+    let n = count-is (need.at·returns-then-count-lt-FEWEST-BLOCKS c .After-from-count) in
+    grind (arith, tells)
 
 pub returns-in-Break-body : need.returns-in-Break-body
 returns-in-Break-body c =
@@ -31,19 +28,11 @@ returns-in-Break-body c =
 
 pub returns : need.returns
 returns c =
-    let xs = c .args .bytes .now in
-    let n = c .from-count .result in
-    let cut = c .in-Continue-body .ensures tt .cases in
-    let after : c .in-Continue-count .rest .now ≡ drop 14 xs =
-    c .in-Continue-count .ensures tt .cases .1 ∙ ap (drop 2) (c .in-Continue-nonce .ensures tt .cases .1) ∙ drop-drop 2 12 xs
-    in
-    let long : length (c .in-Continue-count .rest .now) ≡ length xs - 14 = ap length after ∙ length-drop 14 xs in
-    let nonce = c .in-Continue-nonce .ensures tt .cases .0 in
-    let blocks =
-    c .as-chunks .ensures .front
-    ∙ blocks-cut n (c .in-Continue-count .rest .now) (c .in-Continue-body .body .now) (cut .1) (cut .0)
-    ∙ ap (chunked 16 n) after
-    in
-    let rest : c .in-Continue-body .rest .now ≡ drop (14 + 16 * n) xs = cut .2 ∙ ap (drop (16 * n)) after ∙ drop-drop (16 * n) 14 xs in
-    (λ i. Some (keystream (nonce i) (blocks i), rest i))
-    ∙ keystream-found xs n (count-is (need.at·returns c .After-from-count)) (omega arith) (omega arith) (omega arith)
+    let nonce = c .in-Continue-nonce .ensures tt .cases in
+    let count = c .in-Continue-count .ensures tt .cases in
+    let body = c .in-Continue-body .ensures tt .cases in
+    keystream-cut (c .args .bytes .now) (c .in-Continue-nonce .nonce .now) (c .in-Continue-nonce .rest .now) (c .in-Continue-count .rest .now)
+    (c .in-Continue-body .body .now) (c .in-Continue-body .rest .now) (c .as-chunks .result .0 .now) (c .from-count .result)
+    (nonce .0) (nonce .1) (count .1) (omega arith)
+    (count-is (need.at·returns c .After-from-count)) (omega arith) (omega arith) (body .0)
+    (body .1) (c .as-chunks .ensures .front) (body .2)
