@@ -65,17 +65,31 @@ pub impl fmt::Display for Account as AccountDisplay {
         let refused = self.refused;
         let commands = accepted.saturating_add(refused);
         let unreadable = self.unreadable;
-        writeln!(f, "account")?;
-        writeln!(f, "  commands: {commands}")?;
-        for (word, count) in self.by_word.iter() {
-            writeln!(f, "    {word}: {count}")?;
-        }
-        writeln!(f, "  accepted: {accepted}")?;
-        writeln!(f, "  refused: {refused}")?;
-        for (number, tally) in self.by_number.iter() {
-            let Tally { reason, count } = *tally;
-            writeln!(f, "    {number} {reason}: {count}")?;
-        }
+        write!(f, "account\n  commands: {commands}\n")?;
+        write_words(f, &self.by_word)?;
+        write!(f, "  accepted: {accepted}\n  refused: {refused}\n")?;
+        write_reasons(f, &self.by_number)?;
         write!(f, "  lines not read: {unreadable}")
     }
+}
+
+fn write_words<W: fmt::Write>(
+    f: &mut fmt::Formatter<W>,
+    words: &BTreeMap<&'static str, u64>,
+) -> fmt::Result {
+    for (word, count) in words.iter() {
+        writeln!(f, "    {word}: {count}")?;
+    }
+    Ok(())
+}
+
+fn write_reasons<W: fmt::Write>(
+    f: &mut fmt::Formatter<W>,
+    tallies: &BTreeMap<u8, Tally>,
+) -> fmt::Result {
+    for (number, tally) in tallies.iter() {
+        let Tally { reason, count } = *tally;
+        writeln!(f, "    {number} {reason}: {count}")?;
+    }
+    Ok(())
 }

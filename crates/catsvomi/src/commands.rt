@@ -5,7 +5,7 @@ use super::fields::Unreadable;
 use super::listings::Listing;
 use std::alloc::Global;
 
-#[derive(Clone, Copy, Debug)]
+#[derive(Clone, Copy)]
 pub enum Command {
     Help,
     Recording,

@@ -1,4 +1,7 @@
 //! A command line taken apart: a word and then fields as `key=value`.
+ghost use Prim.Native.Nat.{_<_};
+ghost use lib.ListN.{length};
+ghost use Rattle.std.specs.Options.{Cases};
 use std::alloc::AllocError;
 use std::alloc::Global;
 use std::alloc::Refused;
@@ -6,7 +9,7 @@ use std::fmt;
 use std::str::SplitWhitespace;
 
 /// Why a line cannot be read.
-#[derive(Clone, Copy, Debug)]
+#[derive(Clone, Copy)]
 pub enum Unreadable<'a> {
     NoText,
     UnknownCommand(&'a str),
@@ -52,7 +55,7 @@ pub impl<T: Drop> From<Refused<T>> for Unreadable<'_> as UnreadableFromRefused {
 }
 
 /// One `key=value`.
-#[derive(Clone, Copy, Debug)]
+#[derive(Clone, Copy)]
 struct Field<'a> {
     key: &'a str,
     value: &'a str,
@@ -65,18 +68,28 @@ pub struct Fields<'a> {
     left: Vec<Field<'a>>,
 }
 
+/// The place of the field with a key.
+fn place(fields: &[Field<'_>], key: &str) -> Option<usize>
+    ensures { λ r. ⌜ Cases r (Unit {0}) (λ i. i < length (now (fields .entry))) ⌝ }
+{
+    for (i, field) in fields.iter().enumerate() {
+        if field.key == key {
+            return Some(i);
+        }
+    }
+    None
+}
+
 impl<'a> Fields<'a> {
     /// Reads the words after the command's own; no key may be given twice.
     pub fn read(heap: Global, words: SplitWhitespace<'a>) -> Result<Fields<'a>, Unreadable<'a>> {
-        let mut left: Vec<Field<'a>> = Vec::new(heap);
+        let mut left = Vec::new(heap);
         for word in words {
             let Some((key, value)) = word.split_once('=') else {
                 return Err(Unreadable::NoField(word));
             };
-            for field in left.iter() {
-                if field.key == key {
-                    return Err(Unreadable::Twice(key));
-                }
+            if place(left.as_slice(), key).is_some() {
+                return Err(Unreadable::Twice(key));
             }
             left.push(Field { key, value })?;
         }
@@ -85,13 +98,10 @@ impl<'a> Fields<'a> {
 
     /// Takes the value of a field.
     fn take(&mut self, key: &'static str) -> Result<&'a str, Unreadable<'a>> {
-        for (i, field) in self.left.iter().enumerate() {
-            if field.key == key {
-                let taken = self.left.remove(i);
-                return Ok(taken.value);
-            }
+        match place(self.left.as_slice(), key) {
+            Some(i) => Ok(self.left.remove(i).value),
+            None => Err(Unreadable::Missing(key)),
         }
-        Err(Unreadable::Missing(key))
     }
 
     /// Takes a field of bytes: hexadecimal, or `-` for none.

@@ -62,8 +62,8 @@ pub record Moved (xs : List ℕ) (from to : ℕ) (e : Entry) : Type 0 where
   pub within : to ≤ length xs
   pub next : records (drop from xs) ≡ e ∷ records (drop to xs)
 
--- A record is handed out where it stands, and the reading goes on right behind it, to the next record. It ends at the end alone. At a
--- fault it stays, and there is a fault only where no record stands or the recording is too long.
+-- A record is handed out where it stands, and the reading goes on right behind it, to the next record. It ends at the
+-- end alone. At a fault it stays, and there is a fault only where no record stands or the recording is too long.
 abbrev pub Lawful : List ℕ → ℕ → Result (Option Entry) Refusal → ℕ → Type 0
 Lawful xs from (Ok (Some e)) to = Moved xs from to e
 Lawful xs from (Ok None) to = (from ≡ length xs) × (to ≡ from)

@@ -25,10 +25,10 @@ returns-in-Break--record c =
     let exit = err-from-errBy (c .from-residual .result) (c .from-residual .ensures .1) in
     let octets = subst Octets (inv .0) (reader .octets) in
     let value : c .from-residual .result ≡ checked xs =
-      exit .1
-      ∙ ap (λ (why : Refusal). Err why) (exit .2)
-      ∙ check-fault xs (reader .bytes .now) (reader .offset) (c .next-record .last .self .offset) (inv .0) (inv .1) (told .lawful .0)
-      (c .in-Break--record .field-0 .0) (told .step)
+    exit .1
+    ∙ ap (λ (why : Refusal). Err why) (exit .2)
+    ∙ check-fault xs (reader .bytes .now) (reader .offset) (c .next-record .last .self .offset) (inv .0) (inv .1) (told .lawful .0)
+    (c .in-Break--record .field-0 .0) (told .step)
     in
     let r = c .from-residual .result in
     record { value = value; exact = answer-exact xs r octets value; rewritten = answer-rewritten xs r octets value }
@@ -56,7 +56,7 @@ returns c =
     let to = c .next-record .last .self .offset in
     let end = subst (λ (o : Option Record). Lawful (reader .bytes .now) (reader .offset) (Ok (mapped entry o)) to) (c .in-rest .is) (told .lawful) in
     let value : Ok tt ≡ checked xs =
-      check-end xs (reader .bytes .now) (reader .offset) to (inv .0) (inv .1) (end .1)
-      (mapped entry (c .in-Continue--record .field-0)) (ap (mapped entry) (c .in-rest .is)) (told .step)
+    check-end xs (reader .bytes .now) (reader .offset) to (inv .0) (inv .1) (end .1)
+    (mapped entry (c .in-Continue--record .field-0)) (ap (mapped entry) (c .in-rest .is)) (told .step)
     in
     record { value = value; exact = answer-exact xs (Ok tt) octets value; rewritten = answer-rewritten xs (Ok tt) octets value }
