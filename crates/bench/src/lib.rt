@@ -1,4 +1,6 @@
 //! The calls that the programs of the folder `bench` measure, exported for C. Nothing checks a declaration in C.
+#![tactic(auto)]
+
 ghost use Rattle.std.specs.Prelude.{◌≡◌};
 ghost use Rattle.field.specs.Blocks.{block_bytes, polynomial};
 ghost use Rattle.field.specs.Folds.{fold};

@@ -1,5 +1,7 @@
 //! The bench program: reads commands from standard input, one a line, answers each, and ends with an account.
 //! `help` lists the commands.
+#![tactic(auto)]
+
 mod accounts;
 mod answers;
 mod commands;

@@ -1,6 +1,8 @@
 //! The field that tags are made in: blocks as polynomials, the fold over data, and the tag.
 //!
 //! Nothing here branches or looks up by a secret: the time of every call depends on lengths alone.
+#![tactic(auto)]
+
 pub mod blocks;
 pub mod folds;
 pub mod known;

@@ -1,4 +1,6 @@
 //! Bytes as hexadecimal text: two characters to a byte, the high digit first.
+#![tactic(auto)]
+
 ghost use Rattle.std.specs.Prelude.{◌≡◌, Some, None, Ok, Err};
 ghost use Rattle.hexadecimal.specs.Hex.{byte, decoded, digit};
 

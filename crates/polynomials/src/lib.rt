@@ -2,6 +2,8 @@
 //!
 //! `product` multiplies two of them, and `pdot` is the product of the field of the polynomials below x^128 modulo
 //! x^128 + x^127 + x^126 + x^121 + 1. Neither has a branch or an index that depends on what it multiplies.
+#![tactic(auto)]
+
 pub mod dot;
 pub mod words;
 

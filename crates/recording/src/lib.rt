@@ -1,4 +1,6 @@
 //! Recordings of keystream, read record by record without copying.
+#![tactic(auto)]
+
 pub mod checking;
 pub mod reading;
 pub mod records;

@@ -1,3 +1,5 @@
 //! Examples and boundaries of the library crates. The contracts say what holds for every input; these run the code.
+#![tactic(auto)]
+
 mod recordings;
 mod refusals;

@@ -1,4 +1,6 @@
 //! What every other crate counts in, and how every call says no.
+#![tactic(auto)]
+
 pub mod lengths;
 pub mod refusals;
 pub mod spare;

@@ -11,21 +11,21 @@ loop-block-init c =
 
 pub loop-block-preserved : goal.loop-block-preserved
 loop-block-preserved c =
-    let word = c.from-bytes.ensures in
-    let next = folded_more c.args.h.0 c.loop-block.v.0 c.loop-block.block-index c.as-chunks.result.0.now (blocks c.as-chunks.result.1.now) c.loop-block-test.true in
+    let word = c.from_bytes.ensures in
+    let next = folded_more c.args.h.0 c.loop-block.v.0 c.loop-block.block-index c.as_chunks.result.0.now (blocks c.as_chunks.result.1.now) c.loop-block-test.true in
     cc
 
-pub returns-then-not-is-empty : goal.returns-then-not-is-empty
-returns-then-not-is-empty c =
-    let last = c.as-chunks.result.1.now in
-    let past = folded_past c.args.h.0 c.loop-block.v.0 c.loop-block.block-index c.as-chunks.result.0.now (blocks last) c.loop-block-test.false in
-    let some = false-eqb (length last) 0 c.if-not-is-empty.ensures in
+pub returns-then-not-is_empty : goal.returns-then-not-is_empty
+returns-then-not-is_empty c =
+    let last = c.as_chunks.result.1.now in
+    let past = folded_past c.args.h.0 c.loop-block.v.0 c.loop-block.block-index c.as_chunks.result.0.now (blocks last) c.loop-block-test.false in
+    let some = false-eqb (length last) 0 c.if-not-is_empty.ensures in
     let short = folded_last c.args.h.0 c.loop-block.v.0 last (omega arith) (omega arith) in
     cc
 
-pub returns-else-not-is-empty : goal.returns-else-not-is-empty
-returns-else-not-is-empty c =
-    let last = c.as-chunks.result.1.now in
-    let past = folded_past c.args.h.0 c.loop-block.v.0 c.loop-block.block-index c.as-chunks.result.0.now (blocks last) c.loop-block-test.false in
-    let none = folded_none c.args.h.0 c.loop-block.v.0 last (true-eqb (length last) 0 c.if-not-is-empty.ensures) in
+pub returns-else-not-is_empty : goal.returns-else-not-is_empty
+returns-else-not-is_empty c =
+    let last = c.as_chunks.result.1.now in
+    let past = folded_past c.args.h.0 c.loop-block.v.0 c.loop-block.block-index c.as_chunks.result.0.now (blocks last) c.loop-block-test.false in
+    let none = folded_none c.args.h.0 c.loop-block.v.0 last (true-eqb (length last) 0 c.if-not-is_empty.ensures) in
     cc

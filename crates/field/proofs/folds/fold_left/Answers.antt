@@ -7,8 +7,8 @@ pub loop-rest-preserved : goal.loop-rest-preserved
 loop-rest-preserved c =
     let some = false-eqb (length c.loop-rest.rest.now) 0 c.loop-rest-test.ensures in
     let next = fold_step c.args.h.0 c.loop-rest.v.0 c.loop-rest.bits.0 c.loop-rest.rest.now (omega arith) in
-    let front = c.split-at.ensures.front in
-    let back = c.split-at.ensures.back in
+    let front = c.split_at.ensures.front in
+    let back = c.split_at.ensures.back in
     let inv = c.loop-rest.invariant in
     cc
 

@@ -19,8 +19,8 @@ returns c =
     let middle = cross ⊕ low ⊕ high in
     let top = high ⊕ middle / 2 ^ 64 in
     let last = c.divided-2.result in
-    let m : middle < 2 ^ 128 = xor_lt 128 (cross ⊕ low) high (xor_lt 128 cross low c.product.type-inv c.product-low.type-inv) c.product-high.type-inv in
-    let small : top ⊕ last < 2 ^ 128 = xor_lt 128 top last (xor_lt 128 high (middle / 2 ^ 64) c.product-high.type-inv (omega arith)) c.divided-2.type-inv in
+    let m : middle < 2 ^ 128 = xor_lt 128 (cross ⊕ low) high (xor_lt 128 cross low c.product.type_inv c.product-low.type_inv) c.product-high.type_inv in
+    let small : top ⊕ last < 2 ^ 128 = xor_lt 128 top last (xor_lt 128 high (middle / 2 ^ 64) c.product-high.type_inv (omega arith)) c.divided-2.type_inv in
     let value : top ⊕ last ≡ pdot a b =
     pdot_halves a b top (low ⊕ middle * 2 ^ 64 % 2 ^ 128) c.divided.result last small
     (three_products a b low high cross c.product-low.ensures.value c.product-high.ensures.value c.product.ensures.value)

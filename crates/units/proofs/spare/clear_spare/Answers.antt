@@ -8,15 +8,15 @@ pub returns-then-whole-bytes : goal.returns-then-whole-bytes
 returns-then-whole-bytes c =
     let xs = c.args.bytes.now in
     let whole = c.args.bits.0 / 8 in
-    let ys = set xs whole c.high-bits.result in
+    let ys = set xs whole c.high_bits.result in
     let rest : length ys - (whole + 1) ≡ length xs - suc whole = simp length-set (omega arith) in
     let tail : length (take (length ys - (whole + 1)) (drop (whole + 1) ys)) ≡ length ys - (whole + 1) =
     ap length (take_rest ys (whole + 1)) ∙ length-drop (whole + 1) ys
     in
     let e =
-    written_zeros xs whole c.high-bits.result (length ys - (whole + 1)) c.fill.new.self (omega arith) rest
+    written_zeros xs whole c.high_bits.result (length ys - (whole + 1)) c.fill.new.self (omega arith) rest
     (c.fill.ensures.after (λ y h. h) ∙ ap (λ (n : ℕ). replicate n 0) tail)
-    ∙ ap (λ (v : ℕ). take whole xs ++ (v ∷ replicate (length xs - suc whole) 0)) c.high-bits.ensures
+    ∙ ap (λ (v : ℕ). take whole xs ++ (v ∷ replicate (length xs - suc whole) 0)) c.high_bits.ensures
     ∙ sym (cleared_at c.args.bits.0 xs (omega arith) c.octets.ensures)
     in
     record { after = e; bits = λ i. ap (λ (zs : List ℕ). bit_at zs i) e ∙ bit-cleared c.args.bits.0 xs i }

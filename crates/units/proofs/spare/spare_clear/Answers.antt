@@ -30,7 +30,7 @@ returns c =
     let n = c.args.bits.0 in
     let xs = c.args.bytes.now in
     let rest = take (length xs - (n / 8 + 1)) (drop (n / 8 + 1) xs) in
-    let start = bit_xor (get_or xs (n / 8) 0) c.high-bits.result in
+    let start = bit_xor (get_or xs (n / 8) 0) c.high_bits.result in
     let one : n / 8 + 1 ≡ suc (n / 8) = omega arith in
     let e : eqb c.loop-byte.spare 0 ≡ clear n xs =
     ap (λ (k : ℕ). eqb k 0)
@@ -38,7 +38,7 @@ returns c =
     ∙ c.loop-byte.invariant
     ∙ ap (united start) (take_rest xs (n / 8 + 1))
     ∙ ap (λ (k : ℕ). united start (drop k xs)) one
-    ∙ ap (λ (k : ℕ). united (bit_xor (get_or xs (n / 8) 0) k) (drop (suc (n / 8)) xs)) c.high-bits.ensures)
-    ∙ sym (clear_at n xs (omega arith) (λ k. omega (arith, c.type-inv.bytes k)))
+    ∙ ap (λ (k : ℕ). united (bit_xor (get_or xs (n / 8) 0) k) (drop (suc (n / 8)) xs)) c.high_bits.ensures)
+    ∙ sym (clear_at n xs (omega arith) (λ k. omega (arith, c.type_inv.bytes k)))
     in
     record { value = e; tells = Decides-at (eqb c.loop-byte.spare 0) (clear n xs) e (clear_tells n xs) }

@@ -5,7 +5,7 @@ use Rattle.field.proofs.blocks.Block.filled.Goals as goal
 
 pub returns : goal.returns
 returns c =
-    let copied = c.copy-from-slice.new.self in
-    c.from-bytes.ensures
+    let copied = c.copy_from_slice.new.self in
+    c.from_bytes.ensures
     ∙ polynomial-filled (length c.args.bytes.now - 0) copied
-    ∙ ap polynomial c.copy-from-slice.ensures.after
+    ∙ ap polynomial c.copy_from_slice.ensures.after

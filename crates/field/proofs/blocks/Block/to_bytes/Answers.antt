@@ -8,7 +8,7 @@ pub returns : goal.returns
 unfolding block_bytes
 returns c =
     let v = c.args.self.0 in
-    let value : c.to-le-bytes.result ≡ block_bytes v = c.to-le-bytes.ensures ∙ simp div-div-eq-div-mul in
+    let value : c.to_le_bytes.result ≡ block_bytes v = c.to_le_bytes.ensures ∙ simp div-div-eq-div-mul in
     record {
       value = value;
       back = ap polynomial value ∙ polynomial-digits 16 v ∙ mod-eq_of_lt (omega arith);

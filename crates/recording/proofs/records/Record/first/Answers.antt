@@ -4,14 +4,14 @@ use Rattle.recording.specs.Records.{Faithful, first, parsed}
 use Rattle.recording.proofs.RecordLaws.{first_faithful}
 use Rattle.recording.proofs.records.Record.first.Goals as goal
 
-pub returns-in-KEYSTREAM-MARK : goal.returns-in-KEYSTREAM-MARK
-returns-in-KEYSTREAM-MARK c =
+pub returns-in-KEYSTREAM_MARK : goal.returns-in-KEYSTREAM_MARK
+returns-in-KEYSTREAM_MARK c =
     let xs = c.args.bytes.now in
     let value : option_map parsed c.keystream.result ≡ first xs = search rules in
-    record { value = value; faithful = subst (Faithful xs) (sym value) (first_faithful xs (λ k. omega (arith, c.type-inv.bytes k))) }
+    record { value = value; faithful = subst (Faithful xs) (sym value) (first_faithful xs (λ k. omega (arith, c.type_inv.bytes k))) }
 
-pub returns-in-REMARK-MARK : goal.returns-in-REMARK-MARK
-returns-in-REMARK-MARK c =
+pub returns-in-REMARK_MARK : goal.returns-in-REMARK_MARK
+returns-in-REMARK_MARK c =
     let xs = c.args.bytes.now in
     let value : option_map parsed c.remark.result ≡ first xs = search rules in
-    record { value = value; faithful = subst (Faithful xs) (sym value) (first_faithful xs (λ k. omega (arith, c.type-inv.bytes k))) }
+    record { value = value; faithful = subst (Faithful xs) (sym value) (first_faithful xs (λ k. omega (arith, c.type_inv.bytes k))) }
