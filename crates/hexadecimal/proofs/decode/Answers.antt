@@ -19,11 +19,11 @@ returns-then-not-is_empty c = λ _.
     let same = ap length c.as_bytes.ensures.value in
     decoded_odd (length c.args.text.now / 2) c.args.text.now (omega (arith, c.as_chunks.ensures.back_len))
 
-pub returns-in-default : goal.returns-in-default
-returns-in-default c = λ _.
-    all (goal.at.returns-in-default c).Else-not-is_empty
+pub returns-in_default : goal.returns-in_default
+returns-in_default c = λ _.
+    all (goal.at.returns-in_default c).Else-not-is_empty
     ∙ sym c.loop-high.invariant
-    ∙ pairs_stop (vec_items c.loop-high.bytes) c.as_chunks.result.0.now c.loop-high.high-index c.loop-high-test.true c.in-default.ensures
+    ∙ pairs_stop (vec_items c.loop-high.bytes) c.as_chunks.result.0.now c.loop-high.high-index c.loop-high-test.true c.in_default.ensures
 
 pub loop-high-preserved : goal.loop-high-preserved
 loop-high-preserved c =

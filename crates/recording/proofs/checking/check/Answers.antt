@@ -10,19 +10,19 @@ use Rattle.recording.specs.declared.records.Record.{Record}
 use Rattle.recording.proofs.CheckingLaws.{answer_exact, answer_rewritten, check_end, check_fault, reached_more}
 use Rattle.recording.proofs.checking.check.Goals as goal
 
-pub returns-in-err-_record : goal.returns-in-err-_record
-returns-in-err-_record c =
+pub returns-in_err-_record : goal.returns-in_err-_record
+returns-in_err-_record c =
     let xs = c.args.bytes.now in
     let reader = c.loop-record.reader in
     let inv = c.loop-record.invariant in
-    let told = c.in-err-_record.ensures in
+    let told = c.in_err-_record.ensures in
     let exit = err_from_is_err_and c.from_residual.result c.from_residual.ensures.1 in
     let octets = subst Octets inv.0 reader.octets in
     let value : c.from_residual.result ≡ checked xs =
     exit.1
     ∙ ap (λ (why : Refusal). Err why) exit.2
     ∙ check_fault xs reader.bytes.now reader.offset c.next_record.new.self.offset inv.0 inv.1 told.lawful.0
-    c.in-err-_record.field-0.0 told.step
+    c.in_err-_record.field-0.0 told.step
     in
     let r = c.from_residual.result in
     record { value = value; exact = answer_exact xs r octets value; rewritten = answer_rewritten xs r octets value }
@@ -32,7 +32,7 @@ loop-record-preserved c =
     let xs = c.args.bytes.now in
     let reader = c.loop-record.reader in
     let inv = c.loop-record.invariant in
-    let told = c.in-ok-_record.ensures in
+    let told = c.in_ok-_record.ensures in
     let octets = subst Octets inv.0 reader.octets in
     let to = c.next_record.new.self.offset in
     let e = entry c.in-Some._record in
@@ -45,12 +45,12 @@ returns c =
     let xs = c.args.bytes.now in
     let reader = c.loop-record.reader in
     let inv = c.loop-record.invariant in
-    let told = c.in-ok-_record.ensures in
+    let told = c.in_ok-_record.ensures in
     let octets = subst Octets inv.0 reader.octets in
     let to = c.next_record.new.self.offset in
-    let end = subst (λ (o : Option Record). Lawful reader.bytes.now reader.offset (Ok (option_map entry o)) to) c.in-default.is told.lawful in
+    let end = subst (λ (o : Option Record). Lawful reader.bytes.now reader.offset (Ok (option_map entry o)) to) c.in_default.is told.lawful in
     let value : Ok tt ≡ checked xs =
     check_end xs reader.bytes.now reader.offset to inv.0 inv.1 end.1
-    (option_map entry c.in-ok-_record.field-0) (ap (option_map entry) c.in-default.is) told.step
+    (option_map entry c.in_ok-_record.field-0) (ap (option_map entry) c.in_default.is) told.step
     in
     record { value = value; exact = answer_exact xs (Ok tt) octets value; rewritten = answer_rewritten xs (Ok tt) octets value }

@@ -11,13 +11,13 @@ use Rattle.recording.proofs.reading.Reader.next_record.Goals.{In-Some}
 there : (c : In-Some) → Begins (entry c.in-Some.record) c.in-Some.rest.now (drop c.args.self.now.offset c.args.self.now.bytes.now)
 there c = subst (Begins (entry c.in-Some.record) c.in-Some.rest.now) (take_rest c.args.self.now.bytes.now c.args.self.now.offset) c.in-Some.ensures.faithful
 
-pub returns-in-default : goal.returns-in-default
-returns-in-default c =
+pub returns-in_default : goal.returns-in_default
+returns-in_default c =
     let xs = c.args.self.now.bytes.now in
     let at = c.args.self.now.offset in
-    let told = c.in-default.ensures in
+    let told = c.in_default.ensures in
     let none : None ≡ first (drop at xs) = told.value ∙ ap first (take_rest xs at) in
-    let why = c.refuse-in-default.ensures in
+    let why = c.refuse-in_default.ensures in
     let stepped = step_inside xs at (omega arith) (λ e. omega arith) in
     let answer = ap (step_at (length xs) at) none in
     record {
@@ -26,8 +26,8 @@ returns-in-default c =
       lawful = (refl, λ _ e rest begins. told.faithful e rest (subst (Begins e rest) (sym (take_rest xs at)) begins));
     }
 
-pub overflow-sub-self : goal.overflow-sub-self
-overflow-sub-self c = rest_within c.args.self.now.bytes.now c.args.self.now.offset (entry c.in-Some.record) c.in-Some.rest.now (there c)
+pub overflow_sub-self : goal.overflow_sub-self
+overflow_sub-self c = rest_within c.args.self.now.bytes.now c.args.self.now.offset (entry c.in-Some.record) c.in-Some.rest.now (there c)
 
 pub returns : goal.returns
 returns c =
