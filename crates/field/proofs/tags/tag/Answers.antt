@@ -13,7 +13,7 @@ returns c =
     let front = c.copy_from_slice.ensures.after ∙ ap (take size) (c.to_bytes-whole.ensures.value ∙ ap block_bytes c.whole_tag.ensures) in
     record {
       after =
-          tag-written keys.h.0 keys.q.0 keys.p.0 c.args.aad-bits.0 c.args.bits.0 size
+          tag-written keys.h.0 keys.q.0 keys.p.0 c.args.aad_bits.0 c.args.bits.0 size
           c.args.aad.now c.args.ciphertext.now out c.copy_from_slice.new.self room front;
       stands = tag_stands;
     }
