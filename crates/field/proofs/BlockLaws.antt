@@ -11,7 +11,7 @@ use Rattle.units.specs.Strings.{Octets}
 use Rattle.units.specs.Sums.{◌⊕◌, sums}
 use Rattle.units.proofs.StringLaws.{Octets-drop, Octets-take}
 use Rattle.units.proofs.SumLaws.{drop-sums, length-sums, take-sums}
-use Rattle.field.specs.Blocks.{block_bytes, blocks, blocks_by, polynomial}
+use Rattle.field.specs.Blocks.{blocks, blocks_by, polynomial}
 
 -- ---- the polynomial of a byte string
 

@@ -1,7 +1,6 @@
 -- The tag.
-use Rattle.std.proofs.Common.{◌≡◌, ℕ, ◌≤◌, min, List, ◌++◌, length, take, drop, sym, ap, ◌∙◌, ap₂, arith}
+use Rattle.std.proofs.Common.{◌≡◌, ℕ, min, List, ◌++◌, length, take, drop, sym, ap, ◌∙◌, ap₂}
 use native.Mathlib.Nat.{min_comm}
-use lib.Bits.{bit_xor}
 use lib.Lanes.{digits_l}
 use Rattle.units.specs.Sums.{◌⊕◌, sums}
 use Rattle.units.proofs.StringLaws.{drop_least, take_least}
@@ -9,7 +8,7 @@ use Rattle.units.proofs.SumLaws.{take-sums, terms}
 use Rattle.polynomials.specs.Field.{pdot}
 use Rattle.polynomials.proofs.FieldLaws.{pdot-xor_l}
 use Rattle.field.specs.Blocks.{block_bytes}
-use Rattle.field.specs.Folds.{FoldStands, fold}
+use Rattle.field.specs.Folds.{fold}
 use Rattle.field.specs.Tags.{TagStands, lengths, tag, whole_tag}
 use Rattle.field.proofs.BlockLaws.{length_digits, sums-digits}
 use Rattle.field.proofs.FoldLaws.{fold_stands}

@@ -1,6 +1,6 @@
 -- The product of the field.
 use mathlib.Core.Path.{◌≡◌, refl, sym, ap, ap₂, ◌∙◌}
-use Prim.Native.Nat.{ℕ, ◌+◌, ◌*◌, ◌^◌, ◌<◌}
+use Prim.Native.Nat.{ℕ, ◌*◌, ◌^◌, ◌<◌}
 use Rattle.units.specs.Sums.{◌⊕◌}
 use Rattle.polynomials.specs.Polynomials.{Congruent, digitwise, lowered, product, remainder}
 use Rattle.polynomials.specs.Field.{FieldStands, Quotient, inverse, one, pdot}

@@ -3,9 +3,9 @@ use mathlib.Core.Path.{◌≡◌, refl, sym, ap, ap₂, ◌∙◌}
 use Prim.Native.Nat.{ℕ, ◌+◌, ◌-◌, ◌*◌, ◌/◌, ◌%◌, ◌^◌, ◌<◌}
 use native.Mathlib.Nat.{mod-lt, mul_assoc}
 use native.Mathlib.Omega.{arith}
-use lib.Bits.{bit_and, bit_xor, and_mask, xor_assoc, xor_comm, xor_shifted}
+use lib.Bits.{bit_and, bit_xor, and_mask, xor_assoc, xor_shifted}
 use lib.Dec.{lit<, lit≤}
-use lib.Pow.{pow_pos, shl_exact, split}
+use lib.Pow.{shl_exact, split}
 use Rattle.units.specs.Sums.{◌⊕◌}
 use Rattle.units.proofs.SumLaws.{shl-xor, terms}
 use Rattle.polynomials.specs.Polynomials.{digitwise, lowered, product, remainder}

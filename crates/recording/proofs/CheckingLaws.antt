@@ -1,17 +1,17 @@
 -- Where the records of a recording end, and what the verdict says.
-use Rattle.std.proofs.Common.{◌≡◌, ℕ, zero, suc, ◌+◌, ◌<◌, ◌≤◌, true, List, [], ◌∷◌, ◌++◌, length, drop, is_ok, Some, None, Ok, Err, Decides, Option, Result, sym, refl, ap, ◌∙◌, subst, append_assoc, append-nil, arith, length-append}
+use Rattle.std.proofs.Common.{◌≡◌, ℕ, zero, suc, ◌+◌, ◌≤◌, true, List, [], ◌∷◌, ◌++◌, length, drop, is_ok, Some, None, Ok, Err, Decides, Option, Result, sym, refl, ap, ◌∙◌, append_assoc, append-nil, arith, length-append}
 use lib.Seq.{drop-append-add}
-use Rattle.std.proofs.lemmas.List.{drop_all, nil_from_length}
+use Rattle.std.proofs.lemmas.List.{drop_all}
 use Rattle.std.proofs.lemmas.Bool.Decides.{Decides-at, nat_tests}
 use Rattle.std.specs.List.{flat_map, AllByRecursion as All}
 use Rattle.units.specs.Strings.{Octets}
 use Rattle.units.proofs.StringLaws.{Octets-drop, Octets-append_rest}
 use Rattle.units.specs.declared.refusals.Refusal.{Refusal}
 use Rattle.recording.specs.Checking.{Sound, checked, end}
-use Rattle.recording.specs.Reading.{Moved, fault, records, step, step_at, stepped, up_to}
-use Rattle.recording.specs.Records.{Entry, keystream, remark, WellFormed, Begins, first, written}
+use Rattle.recording.specs.Reading.{Moved, records, step, stepped, up_to}
+use Rattle.recording.specs.Records.{Entry, WellFormed, Begins, first, written}
 use Rattle.recording.proofs.ReadingLaws.{Found, records_none, records_some}
-use Rattle.recording.proofs.RecordLaws.{first_there, there_first}
+use Rattle.recording.proofs.RecordLaws.{first_there}
 
 pub end_some : (xs : List ℕ) (e : Entry) (rest : List ℕ) → Octets xs → Begins e rest xs → end xs ≡ length (written e) + end rest
 unfolding end

@@ -1,6 +1,4 @@
-use Rattle.std.proofs.Common.{◌≡◌, ap, ◌∙◌, arith}
 use Rattle.units.specs.Lengths.{split}
-use Rattle.field.specs.Folds.{fold}
 use Rattle.field.proofs.FoldLaws.{fold_split, fold_stands}
 use Rattle.field.proofs.folds.fold.Goals as goal
 

@@ -1,4 +1,4 @@
-use Rattle.std.proofs.Common.{◌≡◌, ◌/◌, length, arith, true-eqb, false-eqb}
+use Rattle.std.proofs.Common.{◌/◌, length, arith, true-eqb, false-eqb}
 use Rattle.field.specs.Blocks.{blocks}
 use Rattle.field.proofs.BlockLaws.{blocks_chunks}
 use Rattle.field.proofs.FoldLaws.{folded_last, folded_more, folded_none, folded_past}

@@ -1,5 +1,4 @@
-use Rattle.std.proofs.Common.{◌≡◌, ℕ, ◌-◌, min, length, sym, ap, ◌∙◌, ap₂, arith, true-eqb, false-eqb}
-use Rattle.field.specs.Folds.{fold}
+use Rattle.std.proofs.Common.{length, arith, true-eqb, false-eqb}
 use Rattle.field.proofs.FoldLaws.{fold_none, fold_step}
 use Rattle.field.proofs.folds.fold_left.Goals as goal
 

@@ -1,6 +1,5 @@
-use Rattle.std.proofs.Common.{◌≡◌, ℕ, ◌-◌, min, length, take, ap, ◌∙◌, arith}
+use Rattle.std.proofs.Common.{◌≡◌, ◌-◌, min, length, take, ap, ◌∙◌, arith}
 use Rattle.field.specs.Blocks.{block_bytes}
-use Rattle.field.specs.Tags.{whole_tag}
 use Rattle.field.proofs.TagLaws.{tag_stands, tag-written}
 use Rattle.field.proofs.tags.tag.Goals as goal
 

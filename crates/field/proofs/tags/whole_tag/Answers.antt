@@ -1,4 +1,3 @@
-use Rattle.std.proofs.Common.{◌≡◌}
 use Rattle.field.specs.Tags.{whole_tag}
 use Rattle.field.proofs.tags.whole_tag.Goals as goal
 

@@ -1,7 +1,7 @@
 use mathlib.Core.Path.{◌≡◌, sym, subst}
-use Prim.Native.Nat.{ℕ, ◌*◌, ◌/◌, ◌%◌, ◌^◌, ◌<◌}
+use Prim.Native.Nat.{◌*◌, ◌/◌, ◌%◌, ◌^◌, ◌<◌}
 use native.Mathlib.Omega.{arith}
-use lib.Bits.{bit_xor, xor_lt}
+use lib.Bits.{xor_lt}
 use Rattle.units.specs.Sums.{◌⊕◌}
 use Rattle.polynomials.specs.Field.{Quotient, pdot}
 use Rattle.polynomials.proofs.RemainderLaws.{remainder_stands}

@@ -1,8 +1,7 @@
-use Rattle.std.proofs.Common.{◌≡◌, ℕ, List, length, drop, Some, None, Err, sym, refl, ap, ◌∙◌, subst, arith, length-drop}
+use Rattle.std.proofs.Common.{◌≡◌, length, drop, Some, None, sym, refl, ap, ◌∙◌, subst, arith}
 use Rattle.std.proofs.lemmas.List.{take_rest}
-use Rattle.units.specs.declared.refusals.Refusal.{Refusal}
 use Rattle.recording.specs.Records.{Begins, entry, first}
-use Rattle.recording.specs.Reading.{step, step_at}
+use Rattle.recording.specs.Reading.{step_at}
 use Rattle.recording.proofs.ReadingLaws.{moved, rest_within, step_inside}
 use Rattle.recording.proofs.reading.Reader.next_record.Goals as goal
 use Rattle.recording.proofs.reading.Reader.next_record.Goals.{In-Some}
