@@ -3,7 +3,7 @@ use Rattle.std.proofs.Common.{◌≡◌, ℕ, zero, suc, ◌+◌, ◌≤◌, tru
 use lib.Seq.{drop-append-add}
 use Rattle.std.proofs.lemmas.List.{drop_all}
 use Rattle.std.proofs.lemmas.Bool.Decides.{Decides-at, nat_tests}
-use Rattle.std.specs.List.{flat_map, AllByRecursion as All}
+use Rattle.std.specs.List.{flat_map, AllByRecursion}
 use Rattle.units.specs.Strings.{Octets}
 use Rattle.units.proofs.StringLaws.{Octets-drop, Octets-append_rest}
 use Rattle.units.specs.declared.refusals.Refusal.{Refusal}
@@ -78,17 +78,17 @@ front (suc n) xs o = go (front n) (first xs) refl
         ∙ sym there.parts
     go again None e = refl
 
-formed : (n : ℕ) (xs : List ℕ) → Octets xs → All WellFormed (up_to n xs)
+formed : (n : ℕ) (xs : List ℕ) → Octets xs → AllByRecursion WellFormed (up_to n xs)
 formed zero xs o = tt
 formed (suc n) xs o = go (formed n) (first xs) refl
   where
-    go : ((ys : List ℕ) → Octets ys → All WellFormed (up_to n ys)) → (r : Found) → first xs ≡ r → All WellFormed (elim r [ Some p ↦ p.0 ∷ up_to n p.1 | None ↦ [] ])
+    go : ((ys : List ℕ) → Octets ys → AllByRecursion WellFormed (up_to n ys)) → (r : Found) → first xs ≡ r → AllByRecursion WellFormed (elim r [ Some p ↦ p.0 ∷ up_to n p.1 | None ↦ [] ])
     go again (Some p) e =
         let there = first_there xs p.0 p.1 o e in
         (there.formed, again p.1 (Octets-append_rest xs (written p.0) p.1 o there.parts))
     go again None e = tt
 
-run_records : (xs : List ℕ) (es : List Entry) → Octets xs → All WellFormed es → xs ≡ flat_map written es → records xs ≡ es
+run_records : (xs : List ℕ) (es : List Entry) → Octets xs → AllByRecursion WellFormed es → xs ≡ flat_map written es → records xs ≡ es
 run_records xs [] o w e = ap records e ∙ records_none [] refl
 run_records xs (a ∷ es) o w e =
     let there : Begins a (flat_map written es) xs = record { formed = w.0; parts = e } in

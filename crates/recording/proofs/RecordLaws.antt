@@ -2,7 +2,7 @@
 use Rattle.std.proofs.Common.{◌≡◌, ℕ, zero, suc, ◌+◌, ◌*◌, ◌/◌, ◌≤◌, Bool, true, false, cond, ◌&&◌, leb, List, [], ◌∷◌, ◌++◌, length, get_or, take, drop, Some, None, Option, sym, refl, ap, ◌∙◌, subst, ap₂, ⊎_elim, append_assoc, arith, length-append, length-drop, take-append-drop, length-take-le, get_or-drop, get_or-take, take-take, drop-drop, take_at, take-add, drop_at}
 use Rattle.std.proofs.lemmas.List.{drop-take}
 use Rattle.std.proofs.lemmas.Bool.{and_parts, cases_Bool, cond-false, cond-true, le-leb, leb-true}
-use Rattle.std.specs.List.{flat_map, AllByRecursion as All}
+use Rattle.std.specs.List.{flat_map, AllByRecursion}
 use Rattle.std.specs.Simd.{first_chunks}
 use Rattle.units.specs.Strings.{Octets, same, two, two_at}
 use Rattle.units.proofs.StringLaws.{length_two, Octets-drop, same_true, two_again, two_read}
@@ -86,9 +86,9 @@ length-first_chunks : (n : ℕ) (xs : List ℕ) → length (first_chunks 16 n xs
 length-first_chunks zero xs = refl
 length-first_chunks (suc n) xs = ap suc (length-first_chunks n (drop 16 xs))
 
-All-first_chunks : (n : ℕ) (xs : List ℕ) → 16 * n ≤ length xs → All (λ block. length block ≡ 16) (first_chunks 16 n xs)
-All-first_chunks zero xs h = tt
-All-first_chunks (suc n) xs h = (length-take-le 16 xs (omega arith), All-first_chunks n (drop 16 xs) (simp length-drop (omega arith)))
+AllByRecursion-first_chunks : (n : ℕ) (xs : List ℕ) → 16 * n ≤ length xs → AllByRecursion (λ block. length block ≡ 16) (first_chunks 16 n xs)
+AllByRecursion-first_chunks zero xs h = tt
+AllByRecursion-first_chunks (suc n) xs h = (length-take-le 16 xs (omega arith), AllByRecursion-first_chunks n (drop 16 xs) (simp length-drop (omega arith)))
 
 found-cond : {A : Type 0} (b : Bool) (x y : A) → cond b (Some x) None ≡ Some y → (b ≡ true) × (x ≡ y)
 found-cond true x y e = (refl, cc)
@@ -120,7 +120,7 @@ keystream_there xs e rest o found =
     in
     subst (λ (p : Entry × List ℕ). Begins p.0 p.1 (keystream_mark ++ xs)) got.1
     record {
-      formed = (length-take-le 12 xs (omega arith), omega arith, omega arith, All-first_chunks n (drop 14 xs) (simp length-drop (omega arith)));
+      formed = (length-take-le 12 xs (omega arith), omega arith, omega arith, AllByRecursion-first_chunks n (drop 14 xs) (simp length-drop (omega arith)));
       parts = ap (λ (l : List ℕ). 0x4B ∷ 0x53 ∷ l) parts;
     }
 
@@ -167,7 +167,7 @@ first_there xs e rest o found =
 
 -- ---- what is there is found
 
-first_chunks-flat_map : (blocks : List (List ℕ)) (rest : List ℕ) → All (λ block. length block ≡ 16) blocks → first_chunks 16 (length blocks) (flat_map (λ block. block) blocks ++ rest) ≡ blocks
+first_chunks-flat_map : (blocks : List (List ℕ)) (rest : List ℕ) → AllByRecursion (λ block. length block ≡ 16) blocks → first_chunks 16 (length blocks) (flat_map (λ block. block) blocks ++ rest) ≡ blocks
 first_chunks-flat_map [] rest a = refl
 first_chunks-flat_map (b ∷ blocks) rest a =
     let flat : flat_map (λ block. block) (b ∷ blocks) ++ rest ≡ b ++ (flat_map (λ block. block) blocks ++ rest) = append_assoc b (flat_map (λ block. block) blocks) rest in
@@ -175,7 +175,7 @@ first_chunks-flat_map (b ∷ blocks) rest a =
     let after = ap (drop 16) flat ∙ drop_at b (flat_map (λ block. block) blocks ++ rest) 16 a.0 in
     (λ i. this i ∷ first_chunks 16 (length blocks) (after i)) ∙ ap (λ (l : List (List ℕ)). b ∷ l) (first_chunks-flat_map blocks rest a.1)
 
-length-flat_map : (blocks : List (List ℕ)) → All (λ block. length block ≡ 16) blocks → length (flat_map (λ block. block) blocks) ≡ 16 * length blocks
+length-flat_map : (blocks : List (List ℕ)) → AllByRecursion (λ block. length block ≡ 16) blocks → length (flat_map (λ block. block) blocks) ≡ 16 * length blocks
 length-flat_map [] a = refl
 length-flat_map (b ∷ blocks) a =
     let more = length-flat_map blocks a.1 in

@@ -1,6 +1,6 @@
 -- The check of a whole recording.
 use Rattle.std.specs.Prelude.{◌≡◌, ℕ, ◌≤◌, cond, List, length, Ok, Err, Result, ◌==◌, nat_lt}
-use Rattle.std.specs.List.{flat_map, AllByRecursion as All}
+use Rattle.std.specs.List.{flat_map, AllByRecursion}
 use Rattle.units.specs.declared.refusals.Refusal.{Refusal}
 use Rattle.recording.specs.Reading.{fault, records}
 use Rattle.recording.specs.Records.{Entry, WellFormed, written}
@@ -9,7 +9,7 @@ use Rattle.recording.specs.Records.{Entry, WellFormed, written}
 pub record Sound (xs : List ℕ) : Type 0 where
   pub short : length xs ≤ 65536
   pub entries : List Entry
-  pub formed : All WellFormed entries
+  pub formed : AllByRecursion WellFormed entries
   pub run : xs ≡ flat_map written entries
 
 -- where the records of xs end

@@ -1,7 +1,7 @@
 -- The records of a recording, and what each looks like written out.
 use Rattle.std.specs.Prelude.{◌≡◌, ℕ, ◌+◌, ◌*◌, ◌≤◌, cond, ◌&&◌, List, [], ◌∷◌, ◌++◌, length, take, drop, Some, None, Option, nat_le, slice_index}
 use Rattle.std.specs.Borrow.{Bor}
-use Rattle.std.specs.List.{flat_map, AllByRecursion as All}
+use Rattle.std.specs.List.{flat_map, AllByRecursion}
 use Rattle.std.specs.Simd.{first_chunks}
 use Rattle.units.specs.Strings.{same, two, two_at}
 use Rattle.recording.specs.declared.records.Record.{Record}
@@ -25,7 +25,7 @@ written (remark text) = remark_mark ++ (length text ∷ text)
 
 -- a nonce of 12 bytes and 1 to 1,024 blocks of 16, or a remark whose length fits one byte
 abbrev pub WellFormed : Entry → Type 0
-WellFormed (keystream nonce blocks) = (length nonce ≡ 12) × (1 ≤ length blocks) × (length blocks ≤ 1024) × All (λ block. length block ≡ 16) blocks
+WellFormed (keystream nonce blocks) = (length nonce ≡ 12) × (1 ≤ length blocks) × (length blocks ≤ 1024) × AllByRecursion (λ block. length block ≡ 16) blocks
 WellFormed (remark text) = length text ≤ 255
 
 -- the bytes xs are the record e and then the rest
