@@ -102,7 +102,7 @@ def whole(names):
 
 def ghost_parts(text, turn):
     """Only what speaks to the proof in a source file: imports, clauses, ghost fields."""
-    lines, ghost = [], False
+    lines = []
     for line in text.split("\n"):
         stripped = line.strip()
         if re.match(r"(ghost |requires|ensures)", stripped):
@@ -115,15 +115,7 @@ def ghost_parts(text, turn):
 def move_crate(old, new):
     if not Path("crates", old).is_dir():
         return
-    subprocess.run(["git", "mv", f"crates/{old}", f"crates/{new}"], check=True)
-    left = Path("crates", old)
-    if left.is_dir():
-        for path in sorted(left.rglob("*")):
-            if path.is_file():
-                target = Path("crates", new, path.relative_to(left))
-                target.parent.mkdir(parents=True, exist_ok=True)
-                path.rename(target)
-        subprocess.run(["rm", "-r", str(left)], check=True)
+    Path("crates", old).rename(Path("crates", new))
     for path in files("crates/*.antt") + files("crates/*.rt"):
         text = path.read_text()
         text = text.replace(f"Rattle.{old}.", f"Rattle.{new}.")
