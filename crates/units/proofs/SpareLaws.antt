@@ -1,15 +1,17 @@
 -- What clearing leaves, byte by byte and bit by bit.
-use Rattle.std.proofs.Common.{◌≡◌, ℕ, zero, suc, ◌+◌, ◌-◌, ◌*◌, ◌/◌, ◌%◌, ◌^◌, ◌<◌, ◌≤◌, Bool, true, false, cond, ◌&&◌, eqb, ltb, List, [], ◌∷◌, ◌++◌, length, get_or, take, drop, set, replicate, Decides, sym, refl, ap, ◌∙◌, ap₂, ⊎_elim, append_assoc, append-nil, lt_of_le_of_lt, mul_assoc, mul-one, div-mul-le_self, div-one, arith, length-drop, length-set, get_or-drop, drop-cons, pow-add, shr-shr}
-use native.Mathlib.Nat.{div-eq_of_lt}
-use lib.Bits.{bit_and, bit_or, bit_xor, and_high, and_le_l, and_le_r, or_add_and, shifted_even, xor_assoc, xor_self, xor_shr, xor_zero_r}
-use lib.Pow as pow
-use lib.Pow.{mod-pow-add, ones_split, ones_lt, shr_mod, shl-shr}
-use lib.Seq.{split_at}
+use Rattle.std.proofs.Common.{◌≡◌, ℕ, zero, suc, ◌+◌, ◌-◌, ◌*◌, ◌/◌, ◌%◌, ◌^◌, ◌<◌, ◌≤◌, Bool, true, false, cond, ◌&&◌, eqb, ltb, List, [], ◌∷◌, ◌++◌, length, get_or, take, drop, set, replicate, Decides, sym, refl, ap, ◌∙◌, ap₂, ⊎_elim, append_assoc, append-nil, lt_of_le_of_lt, mul_assoc, mul-one, div-mul-le_self, div-one, arith, length-drop, length-set, drop-cons, pow-add, shr-shr, bit_and, bit_or, bit_xor}
+use Rattle.std.proofs.Math.Pow as pow
 use borrow.Rule.Slice.PartMut.{put_mid}
 use Rattle.std.proofs.lemmas.List.{drop_at, nil_from_length, take_at, take_more_set}
 use Rattle.std.proofs.lemmas.Bool.{cases_lt, lt-ltb, le-ltb, eq-eqb, cond_both, cond-false}
 use Rattle.std.proofs.lemmas.Bool.Decides.{nat_tests}
-use Rattle.units.specs.Strings.{Octets, same}
+use Rattle.std.specs.List.{fold}
+use Rattle.std.proofs.Math.Nat.{div-eq_of_lt}
+use Rattle.std.proofs.lemmas.Nat.Bits.{and_high_mask, ones_shr}
+use Rattle.std.proofs.lemmas.Nat.{and_le_l, and_le_r, xor_shr, mod-pow-add, shl-shr}
+use Rattle.std.specs.Int.Bits.{or_add_and, shifted_even, xor_assoc, xor_self, xor_zero_r}
+use Rattle.std.proofs.Math.Seq.{split_at}
+use Rattle.units.specs.Strings.{Octets, same, united}
 use Rattle.units.specs.Sums.{◌⊕◌, sums}
 use Rattle.units.proofs.SumLaws.{shl-xor}
 use Rattle.units.proofs.StringLaws.{same_refl, same_true}
@@ -18,22 +20,13 @@ use Rattle.units.specs.Spare.{high, cleared, clear, bit_at}
 -- ---- one byte
 
 -- the mask that keeps the n high bits of a byte
-high_bits : (n : ℕ) → n < 8 → 255 - 255 / 2 ^ n ≡ 2 ^ (n + (8 - n)) - 2 ^ (8 - n)
-high_bits n h =
-    let eight : 8 - n + n ≡ 8 = omega arith in
-    let also : n + (8 - n) ≡ 8 = omega arith in
-    let whole : 255 ≡ (2 ^ (8 - n) - 1) * 2 ^ n + (2 ^ n - 1) = ap (λ (k : ℕ). 2 ^ k - 1) (sym eight) ∙ ones_split (8 - n) n in
-    let low : 255 / 2 ^ n ≡ 2 ^ (8 - n) - 1 = ap (λ (k : ℕ). k / 2 ^ n) whole ∙ pow.high (2 ^ (8 - n) - 1) n (ones_lt n) in
-    let some : 0 < 2 ^ (8 - n) = pow.pow_pos (8 - n) in
-    let all : 2 ^ (n + (8 - n)) ≡ 256 = ap (λ (k : ℕ). 2 ^ k) also in
-    omega arith
-
 pub high_mask : (n x : ℕ) → n < 8 → x < 256 → bit_and x (255 - 255 / 2 ^ n) ≡ high n x
 unfolding high
 high_mask n x h b =
-    let also : n + (8 - n) ≡ 8 = omega arith in
-    let fits : x < 2 ^ (n + (8 - n)) = rw also b in
-    ap (bit_and x) (high_bits n h) ∙ and_high x n (8 - n) ∙ ap (λ (k : ℕ). k * 2 ^ (8 - n)) (shr_mod n (8 - n) fits)
+    let low = ones_shr 8 n (omega arith) in
+    let some = pow.pow_pos (8 - n) in
+    let mask : 255 - 255 / 2 ^ n ≡ 2 ^ 8 - 2 ^ (8 - n) = omega arith in
+    ap (bit_and x) mask ∙ and_high_mask 8 (8 - n) (omega arith) x b
 
 high_all : (n x : ℕ) → 8 ≤ n → high n x ≡ x
 unfolding high
@@ -111,14 +104,14 @@ cleared_none [] o = refl
 cleared_none (x ∷ xs) o = ap₂ (λ (b : ℕ) (bs : List ℕ). b ∷ bs) (high_none x (o 0)) (cleared_none xs (λ k. o (suc k)))
 
 -- the byte in which the length ends keeps its high bits, and the bytes after it are zero
-pub cleared_at : (n : ℕ) (xs : List ℕ) → n / 8 < length xs → Octets xs → cleared n xs ≡ take (n / 8) xs ++ (high (n % 8) (get_or xs (n / 8) 0) ∷ replicate (length xs - suc (n / 8)) 0)
+pub cleared_at : (n : ℕ) (xs : List ℕ) → n / 8 < length xs → Octets (drop (suc (n / 8)) xs) → cleared n xs ≡ take (n / 8) xs ++ (high (n % 8) (get_or xs (n / 8) 0) ∷ replicate (length xs - suc (n / 8)) 0)
 cleared_at n xs h o =
     let left : n - 8 * (n / 8) ≡ n % 8 = omega arith in
     let none : n % 8 - 8 ≡ 0 = omega arith in
     let after = drop (suc (n / 8)) xs in
     let zeros : cleared (n % 8 - 8) after ≡ replicate (length xs - suc (n / 8)) 0 =
     ap (λ (k : ℕ). cleared k after) none
-    ∙ cleared_none after (λ k. rw get_or-drop (o _))
+    ∙ cleared_none after o
     ∙ ap (λ (k : ℕ). replicate k 0) (length-drop (suc (n / 8)) xs)
     in
     cleared_split n (n / 8) xs (omega arith)
@@ -141,24 +134,26 @@ same_front : (xs ys zs : List ℕ) → same (xs ++ ys) (xs ++ zs) ≡ same ys zs
 same_front [] ys zs = refl
 same_front (x ∷ xs) ys zs = rw (eq-eqb x x refl) (same_front xs ys zs)
 
--- all bits that stand in d or in a byte of the string
-abbrev pub united : ℕ → List ℕ → ℕ
-united d [] = d
-united d (x ∷ xs) = united (bit_or d x) xs
-
-or-zero : (a b : ℕ) → eqb (bit_or a b) 0 ≡ (eqb a 0 && eqb 0 b)
-or-zero a b =
+either_zero : (a b : ℕ) → eqb (bit_or a b) 0 ≡ (eqb a 0 && eqb b 0)
+either_zero a b =
     let o = or_add_and a b in let l = and_le_l a b in let r = and_le_r a b in
     grind (arith, nat_tests)
 
-united-zero : (d : ℕ) (xs : List ℕ) → eqb (united d xs) 0 ≡ (eqb d 0 && same (replicate (length xs) 0) xs)
-united-zero d [] = sym (and_true (eqb d 0))
+union_zero : (d : ℕ) (xs : List ℕ) → eqb (fold bit_or d xs) 0 ≡ (eqb d 0 && same (replicate (length xs) 0) xs)
+union_zero d [] = sym (and_true (eqb d 0))
   where
     and_true : (b : Bool) → (b && true) ≡ b
     and_true true = refl
     and_true false = refl
-united-zero d (x ∷ xs) = united-zero (bit_or d x) xs ∙ ap (λ (t : Bool). t && same (replicate (length xs) 0) xs) (or-zero d x) ∙ and_assoc (eqb d 0) (eqb 0 x) _
+union_zero d (x ∷ xs) =
+    union_zero (bit_or d x) xs
+    ∙ ap (λ (t : Bool). t && same (replicate (length xs) 0) xs) (either_zero d x)
+    ∙ ap (λ (t : Bool). (eqb d 0 && t) && same (replicate (length xs) 0) xs) (eqb_sym x 0)
+    ∙ and_assoc (eqb d 0) (eqb 0 x) _
   where
+    eqb_sym : (m n : ℕ) → eqb m n ≡ eqb n m
+    eqb_sym m n = grind (arith, nat_tests)
+
     and_assoc : (p q r : Bool) → ((p && q) && r) ≡ (p && (q && r))
     and_assoc true q r = refl
     and_assoc false q r = refl
@@ -170,7 +165,7 @@ differ_zero x y =
     grind (arith, nat_tests)
 
 -- the test of the spare bits as it is computed
-pub clear_at : (n : ℕ) (xs : List ℕ) → n / 8 < length xs → Octets xs → clear n xs ≡ eqb (united (bit_xor (get_or xs (n / 8) 0) (high (n % 8) (get_or xs (n / 8) 0))) (drop (suc (n / 8)) xs)) 0
+pub clear_at : (n : ℕ) (xs : List ℕ) → n / 8 < length xs → Octets (drop (suc (n / 8)) xs) → clear n xs ≡ eqb (bit_or (bit_xor (get_or xs (n / 8) 0) (high (n % 8) (get_or xs (n / 8) 0))) (united (drop (suc (n / 8)) xs))) 0
 clear_at n xs h o =
     let w = n / 8 in
     let x = get_or xs w 0 in
@@ -179,7 +174,7 @@ clear_at n xs h o =
     ap₂ same (cleared_at n xs h o) parts
     ∙ same_front (take w xs) (high (n % 8) x ∷ replicate (length xs - suc w) 0) (x ∷ rest)
     ∙ ap₂ (λ (t : Bool) (k : ℕ). t && same (replicate k 0) rest) (sym (differ_zero x (high (n % 8) x))) (sym (length-drop (suc w) xs))
-    ∙ sym (united-zero (bit_xor x (high (n % 8) x)) rest)
+    ∙ sym (either_zero (bit_xor x (high (n % 8) x)) (united rest) ∙ ap (λ (t : Bool). eqb (bit_xor x (high (n % 8) x)) 0 && t) (union_zero 0 rest))
 
 pub clear_whole : (n : ℕ) (xs : List ℕ) → length xs ≤ n / 8 → clear n xs ≡ true
 clear_whole n xs h = ap (λ (ys : List ℕ). same ys xs) (cleared_whole n xs (omega arith)) ∙ same_refl xs

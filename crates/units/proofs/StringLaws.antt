@@ -1,8 +1,11 @@
 -- Parts of byte strings, byte strings that are equal, and numbers in them.
-use Rattle.std.proofs.Common.{◌≡◌, ℕ, zero, suc, ◌+◌, ◌*◌, ◌/◌, ◌%◌, ◌<◌, ◌≤◌, min, true, eqb, List, [], ◌∷◌, ◌++◌, length, get_or, take, drop, sym, refl, ap, ◌∙◌, ap₂, ⊎_elim, arith, get_or-drop, drop-cons, get_or-append-add}
+use Rattle.std.proofs.Common.{◌≡◌, ◌↔◌, ℕ, zero, suc, ◌+◌, ◌*◌, ◌/◌, ◌%◌, ◌<◌, ◌≤◌, min, true, eqb, List, [], ◌∷◌, ◌++◌, length, get_or, take, drop, sym, refl, ap, ◌∙◌, ap₂, ⊎_elim, arith, get_or-drop, drop-cons, get_or-append-add}
 use Rattle.std.proofs.lemmas.List.{drop_all, take_all}
 use Rattle.std.proofs.lemmas.Bool.{and_parts, cases_lt, eq-eqb, eqb-true, false≢true}
-use Rattle.units.specs.Strings.{Octets, same, two, two_at}
+use Rattle.std.proofs.lemmas.Nat.{le_or_l, le_or_r}
+use Rattle.std.specs.Int.Bits.{bit_or}
+use Rattle.std.specs.List.{fold}
+use Rattle.units.specs.Strings.{Octets, same, two, two_at, united}
 
 pub Octets-append_rest : (xs front rest : List ℕ) → Octets xs → xs ≡ front ++ rest → Octets rest
 Octets-append_rest xs front rest o e k =
@@ -72,3 +75,21 @@ two_read front back n h =
     in
     let low : get_or (front ++ (two n ++ back)) (length front + 1) 0 ≡ n % 256 = get_or-append-add front (two n ++ back) 1 0 in
     (λ j. high j * 256 + low j) ∙ omega arith
+
+-- a union is zero exactly where each byte is
+pub united_none : (xs : List ℕ) → united xs ≡ 0 ↔ ((k : ℕ) → get_or xs k 0 ≡ 0)
+united_none xs = (λ e. (none 0 xs e).1, zeros xs)
+  where
+    none : (d : ℕ) (ys : List ℕ) → fold bit_or d ys ≡ 0 → (d ≡ 0) × ((k : ℕ) → get_or ys k 0 ≡ 0)
+    none d [] e = (e, λ k. refl)
+    none d (y ∷ ys) e =
+        let rest = none (bit_or d y) ys e in
+        let union = rest.0 in
+        let left = le_or_l d y in
+        let right = le_or_r d y in
+        let first : y ≡ 0 = omega arith in
+        (omega arith, λ k. elim k as (λ (n : ℕ). get_or (y ∷ ys) n 0 ≡ 0) [ zero ↦ first | suc n ↦ rest.1 n ])
+
+    zeros : (ys : List ℕ) → ((k : ℕ) → get_or ys k 0 ≡ 0) → united ys ≡ 0
+    zeros [] z = refl
+    zeros (y ∷ ys) z = ap (λ (b : ℕ). fold bit_or b ys) (z 0) ∙ zeros ys (λ k. z (suc k))

@@ -1,9 +1,14 @@
 -- Byte strings.
-use Rattle.std.specs.Prelude.{ℕ, ◌+◌, ◌*◌, ◌/◌, ◌%◌, ◌<◌, Bool, true, false, ◌&&◌, List, [], ◌∷◌, ◌==◌, slice_index}
+use Rattle.std.specs.Prelude.{ℕ, bit_or, ◌+◌, ◌*◌, ◌/◌, ◌%◌, ◌<◌, Bool, true, false, ◌&&◌, List, [], ◌∷◌, ◌==◌, slice_index}
+use Rattle.std.specs.List.{fold}
 
 -- every byte is below 256
 abbrev pub Octets : List ℕ → Type 0
 Octets xs = (k : ℕ) → slice_index xs k < 256
+
+-- the bits that are set in some byte
+abbrev pub united : List ℕ → ℕ
+united xs = fold bit_or 0 xs
 
 -- whether two byte strings are equal
 abbrev pub same : List ℕ → List ℕ → Bool

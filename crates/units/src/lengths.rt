@@ -13,6 +13,7 @@ pub struct Bytes(pub usize);
 
 impl Bits {
     /// The bytes that these bits fill: the smallest number of bytes that holds them.
+    #[tactic(auto, unfolding(crate::specs::Lengths::filled))]
     pub fn bytes(self) -> Bytes
         ensures value { result.0 ≡ filled self.0 }
         ensures holds { self.0 ≤ 8 * result.0 }
@@ -22,6 +23,7 @@ impl Bits {
     }
 
     /// Whole blocks of 128 bits, and the bits left over.
+    #[tactic(auto, unfolding(crate::specs::Lengths::split))]
     pub fn split(self) -> (u32, Bits)
         ensures whole { result.0 ≡ (split self.0).whole }
         ensures left { result.1.0 ≡ (split self.0).left }

@@ -8,5 +8,5 @@ pub mod strings;
 
 pub use lengths::{Bits, Bytes};
 pub use refusals::{Explained, Layer, Reason, Refusal};
-pub use spare::{clear_spare, spare_clear};
+pub use spare::{BitString, clear_spare};
 pub use strings::octets;

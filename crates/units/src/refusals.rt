@@ -5,7 +5,7 @@ ghost use Rattle.units.specs.Refusals.{line, number, word};
 use std::fmt;
 
 /// Why a call says no. The discriminant is the number by which people and programs know the reason.
-#[derive(Clone, Copy, Debug, PartialEq, Eq)]
+#[derive(Clone, Copy, Debug, PartialEq, Eq, PartialOrd, Ord)]
 pub enum Reason {
     /// The work area has not exactly 64 bytes.
     WorkArea = 1,
@@ -87,6 +87,15 @@ impl Layer {
     }
 }
 
+/// The layer as its word.
+impl fmt::Display for Layer {
+    ghost output = { λ l. Some (word l) };
+
+    fn fmt<W: fmt::Write>(&self, f: &mut fmt::Formatter<W>) -> fmt::Result {
+        f.write_str(self.word())
+    }
+}
+
 /// The reason in a few words, for people.
 impl fmt::Display for Reason {
     fn fmt<W: fmt::Write>(&self, f: &mut fmt::Formatter<W>) -> fmt::Result {
@@ -117,7 +126,7 @@ impl fmt::Display for Refusal {
 
     fn fmt<W: fmt::Write>(&self, f: &mut fmt::Formatter<W>) -> fmt::Result {
         let number = self.reason.number();
-        let layer = self.layer.word();
+        let layer = self.layer;
         let place = self.place;
         write!(f, "refused {number} {layer} {place}")
     }

@@ -7,6 +7,7 @@ use super::lengths::Bits;
 use super::strings::octets;
 
 /// The first `count` bits of a byte; the others as zero.
+#[tactic(auto, using(crate::proofs::SpareLaws::high_mask))]
 fn high_bits(count: u32, byte: u8) -> u8
     requires { count < 8 }
     ensures { result ≡ high count byte }
@@ -19,6 +20,7 @@ pub fn clear_spare(bits: Bits, bytes: &mut [u8])
     ensures after { bytes.new ≡ cleared bits.0 bytes.old }
     ensures bits { (i : ℕ) → bit_at bytes.new i ≡ (if nat_lt i bits.0 then bit_at bytes.old i else 0) }
 {
+    // What this answers is not wanted, but that each byte is below 256: of bytes that are then written no type says it.
     octets(bytes);
     let whole = (bits.0 / 8) as usize;
     if whole < bytes.len() {
@@ -27,18 +29,26 @@ pub fn clear_spare(bits: Bits, bytes: &mut [u8])
     }
 }
 
-/// Whether the spare bits of `bytes` are clear, if its length is `bits`. It reads every byte, whatever it finds.
-pub fn spare_clear(bits: Bits, bytes: &[u8]) -> bool
-    ensures value { result ≡ clear bits.0 bytes.now }
-    ensures tells { Decides result ((i : ℕ) → bits.0 ≤ i → bit_at bytes.now i ≡ 0) }
-{
-    let whole = (bits.0 / 8) as usize;
-    if whole >= bytes.len() {
-        return true;
+/// A byte string and its length in bits. Where the bytes are more than the bits fill, their bits are spare; where they
+/// are fewer, no bit is.
+#[derive(Clone, Copy, Debug)]
+pub struct BitString<'a> {
+    pub bits: Bits,
+    pub bytes: &'a [u8],
+}
+
+impl BitString<'_> {
+    /// Whether the spare bits are clear. It reads every byte from the last one on, whatever it finds.
+    pub fn spare_clear(self) -> bool
+        ensures value { result ≡ clear self.entry.bits.0 self.entry.bytes.now }
+        ensures tells { Decides result ((i : ℕ) → self.entry.bits.0 ≤ i → bit_at self.entry.bytes.now i ≡ 0) }
+    {
+        let BitString { bits, bytes } = self;
+        let whole = (bits.0 / 8) as usize;
+        if whole >= bytes.len() {
+            return true;
+        }
+        let last = bytes[whole];
+        (last ^ high_bits(bits.0 % 8, last)) | octets(&bytes[whole + 1..]) == 0
     }
-    let mut spare = bytes[whole] ^ high_bits(bits.0 % 8, bytes[whole]);
-    for byte in &bytes[whole + 1..] {
-        spare |= *byte;
-    }
-    spare == 0
 }

@@ -1,11 +1,12 @@
-//! Byte strings as a proof sees them.
-ghost use Rattle.units.specs.Strings.{Octets};
+//! Byte strings.
+ghost use Rattle.std.specs.Prelude.{◌≡◌, ℕ, ◌↔◌, slice_index};
+ghost use Rattle.units.specs.Strings.{Octets, united};
 
-/// Does nothing. Its contract says of a byte string what its type says, for the proofs of its callers.
-pub fn octets(bytes: &[u8])
-    ensures { Octets bytes.now }
+/// The bits that are set in some byte. It reads every byte, whatever it finds.
+pub fn octets(bytes: &[u8]) -> u8
+    ensures bytes { Octets bytes.now }
+    ensures value { result ≡ united bytes.now }
+    ensures none { result ≡ 0 ↔ ((k : ℕ) → slice_index bytes.now k ≡ 0) }
 {
-    for byte in bytes {
-        let _byte = *byte;
-    }
+    bytes.iter().fold(0, |all, byte| all | *byte)
 }

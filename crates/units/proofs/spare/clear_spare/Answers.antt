@@ -1,6 +1,7 @@
 use Rattle.std.proofs.Common.{◌≡◌, ℕ, suc, ◌+◌, ◌-◌, ◌/◌, List, ◌∷◌, ◌++◌, length, take, drop, set, replicate, sym, ap, ◌∙◌, arith, length-drop, length-set}
 use Rattle.std.proofs.lemmas.List.{take_rest}
 use Rattle.units.specs.Spare.{bit_at}
+use Rattle.units.proofs.StringLaws.{Octets-drop}
 use Rattle.units.proofs.SpareLaws.{bit-cleared, cleared_at, cleared_whole, written_zeros}
 use Rattle.units.proofs.spare.clear_spare.Goals as goal
 
@@ -17,7 +18,7 @@ returns-then-whole-bytes c =
     written_zeros xs whole c.high_bits.result (length ys - (whole + 1)) c.fill.new.self (omega arith) rest
     (c.fill.ensures.after (λ y h. h) ∙ ap (λ (n : ℕ). replicate n 0) tail)
     ∙ ap (λ (v : ℕ). take whole xs ++ (v ∷ replicate (length xs - suc whole) 0)) c.high_bits.ensures
-    ∙ sym (cleared_at c.args.bits.0 xs (omega arith) c.octets.ensures)
+    ∙ sym (cleared_at c.args.bits.0 xs (omega arith) (Octets-drop xs (suc whole) c.octets.ensures.bytes))
     in
     record { after = e; bits = λ i. ap (λ (zs : List ℕ). bit_at zs i) e ∙ bit-cleared c.args.bits.0 xs i }
 

@@ -1,11 +1,9 @@
-use Rattle.std.proofs.Common.{◌<◌, ◌≤◌, length, ⊎_elim, arith}
-use Rattle.std.proofs.lemmas.List.{get_or_past}
-use Rattle.std.proofs.lemmas.Bool.{cases_lt}
+use Rattle.std.proofs.Common.{◌≡◌, ◌↔◌, ℕ, get_or, sym, subst, rules}
+use Rattle.units.specs.Strings.{united}
+use Rattle.units.proofs.StringLaws.{united_none}
 use Rattle.units.proofs.strings.octets.Goals as goal
 
-pub returns : goal.returns
-returns c = λ k.
-    ⊎_elim
-    (λ (h : k < length c.args.bytes.now). c.loop-byte.invariant k (omega arith))
-    (λ (h : length c.args.bytes.now ≤ k). omega (arith, get_or_past c.args.bytes.now k 0 h))
-    (cases_lt k (length c.args.bytes.now))
+pub returns-clause-none : goal.returns-clause-none
+returns-clause-none c =
+    let value : c.fold.result ≡ united c.args.bytes.now = search rules in
+    subst (λ (n : ℕ). n ≡ 0 ↔ ((k : ℕ) → get_or c.args.bytes.now k 0 ≡ 0)) (sym value) (united_none c.args.bytes.now)
