@@ -12,7 +12,7 @@ use Rattle.units.specs.Sums.{◌⊕◌}
 use Rattle.units.proofs.SumLaws.{low_either}
 use Rattle.polynomials.specs.Polynomials.{product}
 use Rattle.polynomials.specs.Words.{holes}
-use Rattle.polynomials.proofs.ProductLaws.{product_comm, product_lt, product-shl_r, product-xor_r}
+use Rattle.polynomials.proofs.ProductLaws.{product_lt, product-shl_r, product-xor_r}
 use Rattle.polynomials.proofs.HoleLaws.{mask_odds, odds, odds-product, ones, Upto-odds}
 
 -- ---- masks
@@ -80,19 +80,15 @@ sparse_product x y =
 
 -- ---- one mask more
 
-pub row_more : (x y j r p : ℕ) → x < 2 ^ 64 → y < 2 ^ 64 → r ≡ product x (bit_and y (covered j)) → p ≡ product x (bit_and (y / 2 ^ j) holes) → r ⊕ p * 2 ^ j % 2 ^ 128 ≡ product x (bit_and y (covered (j + 1)))
-row_more x y j r p hx hy er ep =
+-- the coefficients of y at one place more: p is what the holes take there
+pub place_more : (x y j sum p : ℕ) → x < 2 ^ 64 → y < 2 ^ 64 → sum ≡ product x (bit_and y (covered j)) → p ≡ product x (bit_and (y / 2 ^ j) holes) → sum ⊕ p * 2 ^ j % 2 ^ 128 ≡ product x (bit_and y (covered (j + 1)))
+place_more x y j sum p hx hy es ep =
     let next = bit_and y (holes * 2 ^ j) in
     let whole : p * 2 ^ j ≡ product x next =
     ap (λ (i : ℕ). i * 2 ^ j) ep ∙ sym (product-shl_r x (bit_and (y / 2 ^ j) holes) j) ∙ ap (product x) (and-shl y holes j)
     in
     let fits : product x next < 2 ^ 128 = product_lt 64 64 x next hx (lt_of_le_of_lt (and_le_l y (holes * 2 ^ j)) hy) in
-    ap₂ bit_xor er (ap (λ (i : ℕ). i % 2 ^ 128) whole ∙ mod-eq_of_lt fits)
+    ap₂ bit_xor es (ap (λ (i : ℕ). i % 2 ^ 128) whole ∙ mod-eq_of_lt fits)
     ∙ sym (product-xor_r x (bit_and y (covered j)) next)
     ∙ ap (product x) (sym (and_xor y (covered j) (holes * 2 ^ j)))
     ∙ ap (λ (i : ℕ). product x (bit_and y (covered i))) (sym (add-one j))
-
-pub rows_more : (x y j r p : ℕ) → x < 2 ^ 64 → y < 2 ^ 64 → r ≡ product (bit_and x (covered j)) y → p ≡ product (bit_and (x / 2 ^ j) holes) y → r ⊕ p * 2 ^ j % 2 ^ 128 ≡ product (bit_and x (covered (j + 1))) y
-rows_more x y j r p hx hy er ep =
-    row_more y x j r p hy hx (er ∙ product_comm (bit_and x (covered j)) y) (ep ∙ product_comm (bit_and (x / 2 ^ j) holes) y)
-    ∙ product_comm y (bit_and x (covered (j + 1)))

@@ -3,7 +3,7 @@
 //! Of each factor only every fifth coefficient is taken at a time. Then at most thirteen ones meet at a place of the
 //! integer product, which the five bits from that place to the next can count, so that no carry reaches the next place;
 //! and the low bit of each count is the coefficient.
-ghost use Rattle.std.specs.Prelude.{◌≡◌};
+ghost use Rattle.std.specs.Prelude.{◌≡◌, ℕ, ◌<◌, ◌^◌};
 ghost use Rattle.std.specs.Int.Bits.{bit_and};
 ghost use Rattle.polynomials.specs.Polynomials.{ProductStands, product};
 ghost use Rattle.polynomials.specs.Words.{holes};
@@ -22,20 +22,25 @@ pub fn product(x: u64, y: u64) -> u128
     ensures value { result ≡ product x y }
     ensures stands { ProductStands }
 {
-    let mut sum: u128 = 0;
-    for shift in 0..SHIFTS {
-        sum ^= row(x >> shift, y) << shift;
-    }
-    sum
+    over_places(x, y, row)
 }
 
-/// The product of the coefficients of `x` at the holes and the whole of `y`.
+/// The product of `x` and the coefficients of `y` at the holes.
 fn row(x: u64, y: u64) -> u128
-    ensures { result ≡ product (bit_and x holes) y }
+    ensures { result ≡ product x (bit_and y holes) }
+{
+    over_places(y & HOLES, x, sparse)
+}
+
+/// The product of `x` and `y`, where `part` gives that of `x` and the coefficients of its second word at the holes.
+fn over_places<F: Fn(u64, u64) -> u128>(x: u64, y: u64, part: F) -> u128
+    requires callable { F.IsAlwaysCallable part }
+    requires multiplies { (b r : ℕ) → b < 2 ^ 64 → F.post part x b r → r ≡ product x (bit_and b holes) }
+    ensures { result ≡ product x y }
 {
     let mut sum: u128 = 0;
     for shift in 0..SHIFTS {
-        sum ^= sparse(x, y >> shift) << shift;
+        sum ^= part(x, y >> shift) << shift;
     }
     sum
 }
