@@ -1,6 +1,5 @@
 -- The product of the field.
-use mathlib.Core.Path.{◌≡◌, refl, sym, ap, ap₂, ◌∙◌}
-use Prim.Native.Nat.{ℕ, ◌*◌, ◌^◌, ◌<◌}
+use Rattle.std.proofs.Common.{◌≡◌, refl, sym, ap, ap₂, ◌∙◌, ℕ, ◌*◌, ◌^◌, ◌<◌}
 use Rattle.units.specs.Sums.{◌⊕◌}
 use Rattle.polynomials.specs.Polynomials.{Congruent, digitwise, lowered, product, remainder}
 use Rattle.polynomials.specs.Field.{FieldStands, Quotient, inverse, one, pdot}

@@ -1,12 +1,8 @@
 -- Integer products with holes. Where the digits in base 32 are 0 or 1, and few, no digit of the integer product carries into the
 -- next, and the digits that are odd are the product of the polynomials.
-use mathlib.Core.Path.{◌≡◌, refl, sym, ap, ap₂, ◌∙◌, subst}
-use Prim.Native.Nat.{ℕ, zero, suc, ◌+◌, ◌*◌, ◌/◌, ◌%◌, ◌≤◌, ◌<◌, zero-le}
-use native.Mathlib.Nat.{add-mul, add-zero, div-add-mod', mod-lt, mul_assoc, mul_comm, one-mul, suc-add, zero-add, zero-mul}
-use native.Mathlib.Numerals.{add-one}
-use native.Mathlib.Omega.{arith}
-use lib.Bits.{bit_and, bit_xor, and_block, and_mask, and_zero_r, xor_block, xor_shifted}
-use lib.Dec.{lit<}
+use Rattle.std.proofs.Common.{◌≡◌, refl, sym, ap, ap₂, ◌∙◌, subst, ℕ, zero, suc, ◌+◌, ◌*◌, ◌/◌, ◌%◌, ◌≤◌, ◌<◌, zero-le, add-mul, add-zero, div-add-mod', mod-lt, mul_assoc, mul_comm, one-mul, suc-add, zero-add, zero-mul, add-one, arith, bit_and, bit_xor, lit<}
+use Rattle.std.proofs.lemmas.Nat.{and_block, and_mask, xor_block}
+use Rattle.std.specs.Int.Bits.{and_zero_r, xor_shifted}
 use Rattle.units.specs.Sums.{◌⊕◌}
 use Rattle.units.proofs.SumLaws.{bit_either, low_either}
 use Rattle.polynomials.specs.Polynomials.{product}

@@ -1,13 +1,9 @@
 -- The product of polynomials.
-use mathlib.Core.Path.{◌≡◌, refl, sym, ap, ap₂, ◌∙◌, subst}
-use Prim.Native.Nat.{ℕ, zero, suc, ◌+◌, ◌*◌, ◌/◌, ◌%◌, ◌^◌, ◌≤◌, ◌<◌}
-use native.Mathlib.Decide.{le_ind}
-use native.Mathlib.Nat.{div-add-mod', le_refl, le_trans, mod-lt, mul_assoc, mul-one, mul-zero, not-suc-le-zero, one-mul, pow-suc, suc-add, zero-mul}
-use native.Mathlib.Omega.{arith}
-use lib.Arith.{bin_ind, half_le, lt-one}
-use lib.Bits.{bit_xor, xor_comm, xor_lt, xor_shifted, xor_shr, xor_zero_r}
-use lib.Dec.{lit<}
-use lib.Pow.{pow-add, pow_mono, pow_pos}
+use Rattle.std.proofs.Common.{◌≡◌, refl, sym, ap, ap₂, ◌∙◌, subst, ℕ, zero, suc, ◌+◌, ◌*◌, ◌/◌, ◌%◌, ◌^◌, ◌≤◌, ◌<◌, div-add-mod', le_refl, le_trans, mod-lt, mul_assoc, mul-one, mul-zero, not-suc-le-zero, one-mul, pow-suc, suc-add, zero-mul, arith, bit_xor, lit<, pow-add, pow_mono, pow_pos}
+use Rattle.std.proofs.Math.Arith.{bin_ind, half_le, lt-one}
+use Rattle.std.proofs.Math.Decide.{le_ind}
+use Rattle.std.proofs.lemmas.Nat.{xor_comm, xor_lt, xor_shr}
+use Rattle.std.specs.Int.Bits.{xor_shifted, xor_zero_r}
 use Rattle.units.specs.Sums.{◌⊕◌}
 use Rattle.units.proofs.SumLaws.{low_either, low-xor, shl-xor, xor_four, xor_low}
 use Rattle.polynomials.specs.Polynomials.{digitwise, product, ProductStands}

@@ -1,11 +1,7 @@
 -- The product of the field by words: three products for four, and the division by x^64.
-use mathlib.Core.Path.{◌≡◌, refl, sym, ap, ap₂, ◌∙◌}
-use Prim.Native.Nat.{ℕ, ◌+◌, ◌-◌, ◌*◌, ◌/◌, ◌%◌, ◌^◌, ◌<◌}
-use native.Mathlib.Nat.{mod-lt, mul_assoc}
-use native.Mathlib.Omega.{arith}
-use lib.Bits.{bit_and, bit_xor, and_mask, xor_assoc, xor_shifted}
-use lib.Dec.{lit<, lit≤}
-use lib.Pow.{shl_exact, split}
+use Rattle.std.proofs.Common.{◌≡◌, refl, sym, ap, ap₂, ◌∙◌, ℕ, ◌+◌, ◌-◌, ◌*◌, ◌/◌, ◌%◌, ◌^◌, ◌<◌, mod-lt, mul_assoc, arith, bit_and, bit_xor, lit<, lit≤, shl_exact}
+use Rattle.std.proofs.lemmas.Nat.{and_mask, shr_split}
+use Rattle.std.specs.Int.Bits.{xor_assoc, xor_shifted}
 use Rattle.units.specs.Sums.{◌⊕◌}
 use Rattle.units.proofs.SumLaws.{shl-xor, terms}
 use Rattle.polynomials.specs.Polynomials.{digitwise, lowered, product, remainder}
@@ -16,7 +12,7 @@ use Rattle.polynomials.proofs.FieldLaws.{pdot_only}
 
 -- a polynomial as two words
 halves : (n : ℕ) → n / 2 ^ 64 * 2 ^ 64 ⊕ n % 2 ^ 64 ≡ n
-halves n = xor_shifted (n / 2 ^ 64) 64 (n % 2 ^ 64) (mod-lt n (lit< tt)) ∙ split n 64
+halves n = xor_shifted (n / 2 ^ 64) 64 (n % 2 ^ 64) (mod-lt n (lit< tt)) ∙ shr_split n 64
 
 -- ---- division
 
@@ -113,19 +109,12 @@ shared low middle high =
     regroup p q r s = simp terms
 
 -- what the code makes of three products of words is the product
-pub three_products : (a b low high cross : ℕ) → low ≡ product (bit_and a (2 ^ 64 - 1)) (bit_and b (2 ^ 64 - 1)) → high ≡ product (a / 2 ^ 64) (b / 2 ^ 64) → cross ≡ product (bit_and a (2 ^ 64 - 1) ⊕ a / 2 ^ 64) (bit_and b (2 ^ 64 - 1) ⊕ b / 2 ^ 64) → (high ⊕ (cross ⊕ low ⊕ high) / 2 ^ 64) * 2 ^ 128 ⊕ (low ⊕ (cross ⊕ low ⊕ high) * 2 ^ 64 % 2 ^ 128) ≡ product a b
+pub three_products : (a b low high cross : ℕ) → low ≡ product (a % 2 ^ 64) (b % 2 ^ 64) → high ≡ product (a / 2 ^ 64) (b / 2 ^ 64) → cross ≡ product (a % 2 ^ 64 ⊕ a / 2 ^ 64) (b % 2 ^ 64 ⊕ b / 2 ^ 64) → (high ⊕ (cross ⊕ low ⊕ high) / 2 ^ 64) * 2 ^ 128 ⊕ (low ⊕ (cross ⊕ low ⊕ high) * 2 ^ 64 % 2 ^ 128) ≡ product a b
 three_products a b low high cross el eh ec =
-    let a0 = a % 2 ^ 64 in
-    let b0 = b % 2 ^ 64 in
-    let a1 = a / 2 ^ 64 in
-    let b1 = b / 2 ^ 64 in
-    let l : low ≡ product a0 b0 = el ∙ ap₂ product (and_mask a 64) (and_mask b 64) in
-    let c : cross ≡ product (a0 ⊕ a1) (b0 ⊕ b1) = ec ∙ ap₂ (λ (x y : ℕ). product (x ⊕ a1) (y ⊕ b1)) (and_mask a 64) (and_mask b 64) in
-    let m : cross ⊕ low ⊕ high ≡ product a0 b1 ⊕ product a1 b0 = ap₂ bit_xor (ap₂ bit_xor c l) eh ∙ middle_is a0 a1 b0 b1 in
-    shared low (cross ⊕ low ⊕ high) high
-    ∙ ap₂ (λ (x y : ℕ). x * 2 ^ 128 ⊕ y * 2 ^ 64 ⊕ low) eh m
-    ∙ ap (bit_xor (product a1 b1 * 2 ^ 128 ⊕ (product a0 b1 ⊕ product a1 b0) * 2 ^ 64)) l
-    ∙ sym (words a b)
+    let middle : cross ⊕ low ⊕ high ≡ product (a % 2 ^ 64) (b / 2 ^ 64) ⊕ product (a / 2 ^ 64) (b % 2 ^ 64) =
+    ap₂ bit_xor (ap₂ bit_xor ec el) eh ∙ middle_is (a % 2 ^ 64) (a / 2 ^ 64) (b % 2 ^ 64) (b / 2 ^ 64)
+    in
+    shared low (cross ⊕ low ⊕ high) high ∙ ap₂ bit_xor (ap₂ (λ (x y : ℕ). x * 2 ^ 128 ⊕ y * 2 ^ 64) eh middle) el ∙ sym (words a b)
 
 -- the bottom half divided by x^64 twice, and the top half
 pub pdot_halves : (a b top bottom once twice : ℕ) → top ⊕ twice < 2 ^ 128 → top * 2 ^ 128 ⊕ bottom ≡ product a b → remainder (once * 2 ^ 64) ≡ remainder bottom → remainder (twice * 2 ^ 64) ≡ remainder once → top ⊕ twice ≡ pdot a b

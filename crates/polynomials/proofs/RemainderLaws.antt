@@ -1,11 +1,9 @@
 -- The remainder by the modulus.
-use mathlib.Core.Path.{◌≡◌, refl, sym, ap, ap₂, ◌∙◌, subst}
-use Prim.Native.Nat.{ℕ, zero, suc, ◌+◌, ◌*◌, ◌/◌, ◌%◌, ◌^◌, ◌<◌}
-use native.Mathlib.Nat.{add-zero, div-add-mod', div-eq_of_lt, div-lt_iff_lt-mul, mod-lt, mul_assoc, mul-one, one-mul, pow-suc, zero-mul}
-use native.Mathlib.Omega.{arith}
-use lib.Arith.{bin_ind}
-use lib.Bits.{bit_xor, xor_assoc, xor_block, xor_comm, xor_mod, xor_shifted, xor_shr, xor_zero_r}
-use lib.Dec.{lit<}
+use Rattle.std.proofs.Common.{◌≡◌, refl, sym, ap, ap₂, ◌∙◌, subst, ℕ, zero, suc, ◌+◌, ◌*◌, ◌/◌, ◌%◌, ◌^◌, ◌<◌, add-zero, div-add-mod', div-lt_iff_lt-mul, mod-lt, mul_assoc, mul-one, one-mul, pow-suc, zero-mul, arith, bit_xor, lit<}
+use Rattle.std.proofs.Math.Arith.{bin_ind}
+use Rattle.std.proofs.Math.Nat.{div-eq_of_lt}
+use Rattle.std.proofs.lemmas.Nat.{xor_block, xor_comm, xor_mod, xor_shr}
+use Rattle.std.specs.Int.Bits.{xor_assoc, xor_shifted, xor_zero_r}
 use Rattle.units.specs.Sums.{◌⊕◌}
 use Rattle.units.proofs.SumLaws.{bit_either, low_either, shl-xor, xor_cancel, xor_four, xor_low}
 use Rattle.polynomials.specs.Polynomials.{Congruent, RemainderStands, digitwise, lowered, modulus, product, remainder}

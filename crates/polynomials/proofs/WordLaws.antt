@@ -1,13 +1,8 @@
 -- The product of two words, by products of their coefficients at every fifth place.
-use mathlib.Core.Path.{◌≡◌, refl, sym, ap, ap₂, ◌∙◌}
-use Prim.Native.Nat.{ℕ, zero, suc, ◌+◌, ◌*◌, ◌/◌, ◌%◌, ◌^◌, ◌<◌}
-use native.Mathlib.Nat.{add-zero, lt_of_le_of_lt, mod-eq_of_lt, mod-lt}
-use native.Mathlib.Numerals.{add-one}
-use native.Mathlib.Omega.{arith}
-use lib.Arith.{bin_ind}
-use lib.Bits.{bit_and, bit_xor, and_block, and_le_l, and_mask, and_mod, and_shr, and_zero_r, xor_mod, xor_shr}
-use lib.Dec.{lit<}
-use lib.Pow.{pow_pos, split}
+use Rattle.std.proofs.Common.{◌≡◌, refl, sym, ap, ap₂, ◌∙◌, ℕ, zero, suc, ◌+◌, ◌*◌, ◌/◌, ◌%◌, ◌^◌, ◌<◌, add-zero, lt_of_le_of_lt, mod-eq_of_lt, mod-lt, add-one, arith, bit_and, bit_xor, lit<, pow_pos}
+use Rattle.std.proofs.Math.Arith.{bin_ind}
+use Rattle.std.proofs.lemmas.Nat.{and_block, and_le_l, and_mask, and_mod, and_shr, xor_mod, xor_shr, shr_split}
+use Rattle.std.specs.Int.Bits.{and_zero_r}
 use Rattle.units.specs.Sums.{◌⊕◌}
 use Rattle.units.proofs.SumLaws.{low_either}
 use Rattle.polynomials.specs.Polynomials.{product}
@@ -46,7 +41,7 @@ and_xor =
 and-shl : (y m k : ℕ) → bit_and (y / 2 ^ k) m * 2 ^ k ≡ bit_and y (m * 2 ^ k)
 and-shl y m k =
     sym
-    (ap₂ bit_and (sym (split y k)) (sym (add-zero (m * 2 ^ k)))
+    (ap₂ bit_and (sym (shr_split y k)) (sym (add-zero (m * 2 ^ k)))
     ∙ and_block k (y / 2 ^ k) m (y % 2 ^ k) 0 (mod-lt y (pow_pos k)) (pow_pos k)
     ∙ ap (λ (x : ℕ). bit_and (y / 2 ^ k) m * 2 ^ k + x) (and_zero_r (y % 2 ^ k))
     ∙ add-zero (bit_and (y / 2 ^ k) m * 2 ^ k))

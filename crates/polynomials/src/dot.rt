@@ -1,5 +1,5 @@
 //! The product of the field, `a * b * x^-128`.
-ghost use Rattle.std.specs.Prelude.{◌≡◌, ◌*◌, ◌^◌};
+ghost use Rattle.std.specs.Prelude.{◌≡◌, ◌*◌, ◌/◌, ◌%◌, ◌^◌};
 ghost use Rattle.polynomials.specs.Polynomials.{RemainderStands, remainder};
 ghost use Rattle.polynomials.specs.Field.{FieldStands, Quotient, pdot};
 
@@ -17,16 +17,22 @@ pub fn pdot(a: u128, b: u128) -> u128
     ensures remainder { RemainderStands }
     ensures stands { FieldStands }
 {
-    let a_low = (a & LOW) as u64;
-    let a_high = (a >> 64) as u64;
-    let b_low = (b & LOW) as u64;
-    let b_high = (b >> 64) as u64;
+    let (a_low, a_high) = halves(a);
+    let (b_low, b_high) = halves(b);
     let low = product(a_low, b_low);
     let high = product(a_high, b_high);
     let middle = product(a_low ^ a_high, b_low ^ b_high) ^ low ^ high;
     let bottom = low ^ (middle << 64);
     let top = high ^ (middle >> 64);
     top ^ divided(divided(bottom))
+}
+
+/// The low word of a polynomial, and the high one.
+fn halves(v: u128) -> (u64, u64)
+    ensures low { result.0 ≡ v % 2 ^ 64 }
+    ensures high { result.1 ≡ v / 2 ^ 64 }
+{
+    ((v & LOW) as u64, (v >> 64) as u64)
 }
 
 /// Division by x^64. What stands below x^64 goes up by x^-64, which is x^64 + x^63 + x^62 + x^57.

@@ -1,7 +1,5 @@
-use mathlib.Core.Path.{◌≡◌, sym, subst}
-use Prim.Native.Nat.{◌*◌, ◌/◌, ◌%◌, ◌^◌, ◌<◌}
-use native.Mathlib.Omega.{arith}
-use lib.Bits.{xor_lt}
+use Rattle.std.proofs.Common.{◌≡◌, sym, subst, ◌*◌, ◌/◌, ◌%◌, ◌^◌, ◌<◌, arith}
+use Rattle.std.proofs.lemmas.Nat.{xor_lt}
 use Rattle.units.specs.Sums.{◌⊕◌}
 use Rattle.polynomials.specs.Field.{Quotient, pdot}
 use Rattle.polynomials.proofs.RemainderLaws.{remainder_stands}
@@ -22,10 +20,7 @@ returns c =
     let m : middle < 2 ^ 128 = xor_lt 128 (cross ⊕ low) high (xor_lt 128 cross low c.product.type_inv c.product-low.type_inv) c.product-high.type_inv in
     let small : top ⊕ last < 2 ^ 128 = xor_lt 128 top last (xor_lt 128 high (middle / 2 ^ 64) c.product-high.type_inv (omega arith)) c.divided-2.type_inv in
     let value : top ⊕ last ≡ pdot a b =
-    pdot_halves a b top (low ⊕ middle * 2 ^ 64 % 2 ^ 128) c.divided.result last small
-    (three_products a b low high cross c.product-low.ensures.value c.product-high.ensures.value c.product.ensures.value)
-    c.divided.ensures
-    c.divided-2.ensures
+    pdot_halves a b top (low ⊕ middle * 2 ^ 64 % 2 ^ 128) c.divided.result last small (three_products a b low high cross (cc) (cc) (cc)) c.divided.ensures c.divided-2.ensures
     in
     record {
       value = value;

@@ -1,5 +1,5 @@
-use Rattle.std.proofs.Common.{◌≡◌, ℕ, ◌/◌, ◌^◌, sym, ap, ◌∙◌, arith}
-use Rattle.std.specs.Int.Bits.{bit_and, and_zero_r}
+use Rattle.std.proofs.Common.{◌≡◌, ℕ, ◌/◌, ◌^◌, sym, ap, ◌∙◌, arith, bit_and}
+use Rattle.std.specs.Int.Bits.{and_zero_r}
 use Rattle.polynomials.specs.Polynomials.{product}
 use Rattle.polynomials.proofs.ProductLaws.{product-zero_r}
 use Rattle.polynomials.proofs.WordLaws.{all-covered, covered, place_more}

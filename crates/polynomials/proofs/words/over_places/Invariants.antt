@@ -1,5 +1,4 @@
-use Rattle.std.proofs.Common.{◌≡◌}
-use Rattle.std.specs.Int.Bits.{bit_and}
+use Rattle.std.proofs.Common.{◌≡◌, bit_and}
 use Rattle.polynomials.specs.Polynomials.{product}
 use Rattle.polynomials.proofs.WordLaws.{covered}
 use Rattle.polynomials.proofs.words.over_places.Given as goal

@@ -1,6 +1,5 @@
-use Rattle.std.proofs.Common.{ap, ◌∙◌}
+use Rattle.std.proofs.Common.{ap, ◌∙◌, bit_and}
 use Rattle.std.proofs.lemmas.Nat.{and_assoc}
-use Rattle.std.specs.Int.Bits.{bit_and}
 use Rattle.polynomials.specs.Polynomials.{product}
 use Rattle.polynomials.specs.Words.{holes}
 use Rattle.polynomials.proofs.ProductLaws.{product_comm}
