@@ -1,12 +1,12 @@
 -- Integer products with holes. Where the digits in base 32 are 0 or 1, and few, no digit of the integer product carries into the
 -- next, and the digits that are odd are the product of the polynomials.
 use Rattle.std.proofs.Common.{◌≡◌, refl, sym, ap, ap₂, ◌∙◌, subst, ℕ, zero, suc, ◌+◌, ◌*◌, ◌/◌, ◌%◌, ◌≤◌, ◌<◌, zero-le, add-mul, add-zero, div-add-mod', mod-lt, mul_assoc, mul_comm, one-mul, suc-add, zero-add, zero-mul, add-one, arith, bit_and, bit_xor, lit<}
-use Rattle.std.proofs.lemmas.Nat.{and_block, and_mask, xor_block}
-use Rattle.std.specs.Int.Bits.{and_zero_r, xor_shifted}
+use Rattle.std.proofs.lemmas.Nat.{and_block, and_mask, xor_block, xor_mod}
+use Rattle.std.specs.Int.Bits.{and_zero_r, xor_add_and, xor_shifted}
 use Rattle.units.specs.Sums.{◌⊕◌}
-use Rattle.units.proofs.SumLaws.{bit_either, low_either}
+use Rattle.units.proofs.SumLaws.{bit_either}
 use Rattle.polynomials.specs.Polynomials.{product}
-use Rattle.polynomials.proofs.ProductLaws.{product_one_l, product-shl_l, product-xor_l, product-zero_l}
+use Rattle.polynomials.proofs.ProductLaws.{product_digit, product-shl_l, product-xor_l, product-zero_l}
 
 -- p has n digits, each at most m
 abbrev pub Upto : ℕ → ℕ → ℕ → Type 0
@@ -62,12 +62,8 @@ odds-same (suc n) p h =
 
 odd_sum : (p q : ℕ) → (p + q) % 2 ≡ p % 2 ⊕ q % 2
 odd_sum p q =
-    let e : (p + q) % 2 ≡ (p % 2 + q % 2) % 2 = omega arith in
-    e
-    ∙ low_either (λ (i : ℕ). (i + q % 2) % 2 ≡ i ⊕ q % 2)
-    (low_either (λ (j : ℕ). (0 + j) % 2 ≡ 0 ⊕ j) refl refl q)
-    (low_either (λ (j : ℕ). (1 + j) % 2 ≡ 1 ⊕ j) refl refl q)
-    p
+    let e : (p + q) % 2 ≡ (p ⊕ q) % 2 = omega (arith, xor_add_and p q) in
+    e ∙ xor_mod p q 1
 
 -- a sum in which no digit carries
 Upto-sum : (n m l p q : ℕ) → m + l < 32 → Upto m n p → Upto l n q → Upto (m + l) n (p + q) × (odds n (p + q) ≡ odds n p ⊕ odds n q)
@@ -104,8 +100,8 @@ odds-product (suc n) k x y b hx hy =
     let left : Upto n top (high * 32) = (subst (λ (i : ℕ). i ≤ n) (sym lo) zero-le, subst (Upto n (n + k)) (sym hi) rest.0) in
     let right : Upto 1 top (x % 32 * y) =
     bit_either (λ (i : ℕ). Upto 1 top (i * y))
-    (subst (Upto 1 top) (sym (zero-mul y)) (Upto-zero 1 top))
-    (subst (Upto 1 top) (sym (one-mul y)) (Upto-suc 1 (n + k) y (Upto-add 1 n k y hy)))
+    (rw zero-mul (Upto-zero 1 top))
+    (rw one-mul (Upto-suc 1 (n + k) y (Upto-add 1 n k y hy)))
     (x % 32)
     hx.0
     in
@@ -115,7 +111,7 @@ odds-product (suc n) k x y b hx hy =
     in
     let joined : product (x / 32) y * 32 ⊕ x % 32 * y ≡ product x y =
     ap₂ bit_xor (sym (product-shl_l (x / 32) y 5))
-    (bit_either (λ (i : ℕ). i * y ≡ product i y) (zero-mul y ∙ sym (product-zero_l y)) (one-mul y ∙ sym (product_one_l y)) (x % 32) hx.0)
+    (sym (product_digit (x % 32) y hx.0))
     ∙ sym (product-xor_l (x / 32 * 32) (x % 32) y)
     ∙ ap (λ (i : ℕ). product i y) (xor_shifted (x / 32) 5 (x % 32) (mod-lt x (lit< tt)) ∙ div-add-mod' x 32)
     in (

@@ -5,7 +5,7 @@ use Rattle.std.proofs.Math.Decide.{le_ind}
 use Rattle.std.proofs.lemmas.Nat.{xor_comm, xor_lt, xor_shr}
 use Rattle.std.specs.Int.Bits.{xor_shifted, xor_zero_r}
 use Rattle.units.specs.Sums.{◌⊕◌}
-use Rattle.units.proofs.SumLaws.{low_either, low-xor, shl-xor, xor_four, xor_low}
+use Rattle.units.proofs.SumLaws.{bit_either, low_either, low-xor, shl-xor, xor_four, xor_low}
 use Rattle.polynomials.specs.Polynomials.{digitwise, product, ProductStands}
 
 -- ---- the recursion over coefficients
@@ -114,9 +114,12 @@ product-shl_l a b (suc k) =
 
 -- ---- commutative and associative
 
+pub product_digit : (d b : ℕ) → d ≤ 1 → product d b ≡ d * b
+product_digit d b h =
+    bit_either (λ (k : ℕ). product k b ≡ k * b) (product-zero_l b ∙ sym (zero-mul b)) (product_one_l b ∙ sym (one-mul b)) d h
+
 pub product_bit : (n b : ℕ) → product (n % 2) b ≡ n % 2 * b
-product_bit n b =
-    low_either (λ (k : ℕ). product k b ≡ k * b) (product-zero_l b ∙ sym (zero-mul b)) (product_one_l b ∙ sym (one-mul b)) n
+product_bit n b = product_digit (n % 2) b (omega arith)
 
 product_step_r : (a b : ℕ) → product a b ≡ b % 2 * a ⊕ product a (b / 2) * 2
 product_step_r a b =

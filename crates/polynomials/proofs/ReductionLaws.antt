@@ -1,5 +1,5 @@
 -- The product of the field by words: three products for four, and the division by x^64.
-use Rattle.std.proofs.Common.{◌≡◌, refl, sym, ap, ap₂, ◌∙◌, ℕ, ◌+◌, ◌-◌, ◌*◌, ◌/◌, ◌%◌, ◌^◌, ◌<◌, mod-lt, mul_assoc, arith, bit_and, bit_xor, lit<, lit≤, shl_exact}
+use Rattle.std.proofs.Common.{◌≡◌, refl, sym, ap, ap₂, ◌∙◌, ℕ, ◌+◌, ◌-◌, ◌*◌, ◌/◌, ◌%◌, ◌^◌, ◌≤◌, ◌<◌, mod-lt, mul_assoc, arith, bit_and, bit_xor, lit<, lit≤, shl_exact}
 use Rattle.std.proofs.lemmas.Nat.{and_mask, shr_split}
 use Rattle.std.specs.Int.Bits.{xor_assoc, xor_shifted}
 use Rattle.units.specs.Sums.{◌⊕◌}
@@ -13,6 +13,9 @@ use Rattle.polynomials.proofs.FieldLaws.{pdot_only}
 -- a polynomial as two words
 halves : (n : ℕ) → n / 2 ^ 64 * 2 ^ 64 ⊕ n % 2 ^ 64 ≡ n
 halves n = xor_shifted (n / 2 ^ 64) 64 (n % 2 ^ 64) (mod-lt n (lit< tt)) ∙ shr_split n 64
+
+up_twice : (n : ℕ) → n * 2 ^ 64 * 2 ^ 64 ≡ n * 2 ^ 128
+up_twice n = mul_assoc n (2 ^ 64) (2 ^ 64)
 
 -- ---- division
 
@@ -48,21 +51,10 @@ divided_by v =
 
 pub divided_is : (v : ℕ) → let w = bit_and v (2 ^ 64 - 1) in remainder ((v / 2 ^ 64 ⊕ w * 2 ^ 64 % 2 ^ 128 ⊕ w * 2 ^ 63 % 2 ^ 128 ⊕ w * 2 ^ 62 % 2 ^ 128 ⊕ w * 2 ^ 57 % 2 ^ 128) * 2 ^ 64) ≡ remainder v
 divided_is v =
-    let w = bit_and v (2 ^ 64 - 1) in
-    let low : w ≡ v % 2 ^ 64 = and_mask v 64 in
-    let h : w < 2 ^ 64 = omega arith in
-    let up = λ (k : ℕ). w * 2 ^ k in
-    ap (λ (x : ℕ). remainder (x * 2 ^ 64))
-    (ap (λ (x : ℕ). v / 2 ^ 64 ⊕ x ⊕ up 63 % 2 ^ 128 ⊕ up 62 % 2 ^ 128 ⊕ up 57 % 2 ^ 128) (shl_exact 64 64 128 h (lit≤ tt))
-    ∙ ap (λ (x : ℕ). v / 2 ^ 64 ⊕ up 64 ⊕ x ⊕ up 62 % 2 ^ 128 ⊕ up 57 % 2 ^ 128) (shl_exact 64 63 128 h (lit≤ tt))
-    ∙ ap (λ (x : ℕ). v / 2 ^ 64 ⊕ up 64 ⊕ up 63 ⊕ x ⊕ up 57 % 2 ^ 128) (shl_exact 64 62 128 h (lit≤ tt))
-    ∙ ap (λ (x : ℕ). v / 2 ^ 64 ⊕ up 64 ⊕ up 63 ⊕ up 62 ⊕ x) (shl_exact 64 57 128 h (lit≤ tt))
-    ∙ regroup (v / 2 ^ 64) (up 64) (up 63) (up 62) (up 57)
-    ∙ ap (bit_xor (v / 2 ^ 64)) (sym (product-inverse64 w) ∙ ap (λ (x : ℕ). product x inverse64) low))
-    ∙ divided_by v
-  where
-    regroup : (a b c d e : ℕ) → a ⊕ b ⊕ c ⊕ d ⊕ e ≡ a ⊕ (b ⊕ c ⊕ d ⊕ e)
-    regroup a b c d e = simp xor_assoc
+    let low = v % 2 ^ 64 in
+    let whole : (k : ℕ) → k ≤ 64 → low * 2 ^ k % 2 ^ 128 ≡ low * 2 ^ k = λ k h. shl_exact 64 k 128 (mod-lt v (lit< tt)) (omega arith) in
+    simp (and_mask v 64, whole 64 (lit≤ tt), whole 63 (lit≤ tt), whole 62 (lit≤ tt), whole 57 (lit≤ tt), xor_assoc)
+    (simp (product-inverse64, xor_assoc) at (divided_by v))
 
 -- ---- three products
 
@@ -74,23 +66,14 @@ middle_is a b c d =
     rest : (p q r s : ℕ) → (p ⊕ q) ⊕ (r ⊕ s) ⊕ p ⊕ s ≡ q ⊕ r
     rest p q r s = simp terms
 
+blocks : (p q r s : ℕ) → product (p * 2 ^ 64 ⊕ q) (r * 2 ^ 64 ⊕ s) ≡ product p r * 2 ^ 128 ⊕ (product q r ⊕ product p s) * 2 ^ 64 ⊕ product q s
+blocks p q r s =
+    let cross : (product q r ⊕ product p s) * 2 ^ 64 ≡ product q r * 2 ^ 64 ⊕ product p s * 2 ^ 64 = shl-xor (product q r) (product p s) 64 in
+    simp (product-xor_l, product-xor_r, product-shl_l p r 64, product-shl_l p s 64, product-shl_r q r 64, product-shl_r (p * 2 ^ 64) r 64, up_twice (product p r), cross)
+    (simp terms)
+
 words : (a b : ℕ) → product a b ≡ product (a / 2 ^ 64) (b / 2 ^ 64) * 2 ^ 128 ⊕ (product (a % 2 ^ 64) (b / 2 ^ 64) ⊕ product (a / 2 ^ 64) (b % 2 ^ 64)) * 2 ^ 64 ⊕ product (a % 2 ^ 64) (b % 2 ^ 64)
-words a b =
-    let a1 = a / 2 ^ 64 in
-    let a0 = a % 2 ^ 64 in
-    let b1 = b / 2 ^ 64 in
-    let b0 = b % 2 ^ 64 in
-    ap₂ product (sym (halves a)) (sym (halves b))
-    ∙ product-xor_l (a1 * 2 ^ 64) a0 (b1 * 2 ^ 64 ⊕ b0)
-    ∙ ap₂ bit_xor
-    (product-xor_r (a1 * 2 ^ 64) (b1 * 2 ^ 64) b0
-    ∙ ap₂ bit_xor (product-shl_r (a1 * 2 ^ 64) b1 64 ∙ ap (λ (x : ℕ). x * 2 ^ 64) (product-shl_l a1 b1 64) ∙ mul_assoc (product a1 b1) (2 ^ 64) (2 ^ 64)) (product-shl_l a1 b0 64))
-    (product-xor_r a0 (b1 * 2 ^ 64) b0 ∙ ap (λ (x : ℕ). x ⊕ product a0 b0) (product-shl_r a0 b1 64))
-    ∙ regroup (product a1 b1 * 2 ^ 128) (product a1 b0 * 2 ^ 64) (product a0 b1 * 2 ^ 64) (product a0 b0)
-    ∙ ap (λ (x : ℕ). product a1 b1 * 2 ^ 128 ⊕ x ⊕ product a0 b0) (sym (shl-xor (product a0 b1) (product a1 b0) 64))
-  where
-    regroup : (p q r s : ℕ) → (p ⊕ q) ⊕ (r ⊕ s) ≡ p ⊕ (r ⊕ q) ⊕ s
-    regroup p q r s = simp terms
+words a b = sym (ap₂ product (halves a) (halves b)) ∙ blocks (a / 2 ^ 64) (a % 2 ^ 64) (b / 2 ^ 64) (b % 2 ^ 64)
 
 -- the middle product, shared out between the two halves
 shared : (low middle high : ℕ) → (high ⊕ middle / 2 ^ 64) * 2 ^ 128 ⊕ (low ⊕ middle * 2 ^ 64 % 2 ^ 128) ≡ high * 2 ^ 128 ⊕ middle * 2 ^ 64 ⊕ low
@@ -99,7 +82,7 @@ shared low middle high =
     let down = middle % 2 ^ 64 in
     let cut : middle * 2 ^ 64 % 2 ^ 128 ≡ down * 2 ^ 64 = omega arith in
     let both : up * 2 ^ 128 ⊕ down * 2 ^ 64 ≡ middle * 2 ^ 64 =
-    ap (λ (x : ℕ). x ⊕ down * 2 ^ 64) (sym (mul_assoc up (2 ^ 64) (2 ^ 64))) ∙ sym (shl-xor (up * 2 ^ 64) down 64) ∙ ap (λ (x : ℕ). x * 2 ^ 64) (halves middle)
+    ap (λ (x : ℕ). x ⊕ down * 2 ^ 64) (sym (up_twice up)) ∙ sym (shl-xor (up * 2 ^ 64) down 64) ∙ ap (λ (x : ℕ). x * 2 ^ 64) (halves middle)
     in
     ap₂ (λ (x y : ℕ). x ⊕ (low ⊕ y)) (shl-xor high up 128) cut
     ∙ regroup (high * 2 ^ 128) (up * 2 ^ 128) low (down * 2 ^ 64)
@@ -120,7 +103,7 @@ three_products a b low high cross el eh ec =
 pub pdot_halves : (a b top bottom once twice : ℕ) → top ⊕ twice < 2 ^ 128 → top * 2 ^ 128 ⊕ bottom ≡ product a b → remainder (once * 2 ^ 64) ≡ remainder bottom → remainder (twice * 2 ^ 64) ≡ remainder once → top ⊕ twice ≡ pdot a b
 pdot_halves a b top bottom once twice small e e1 e2 =
     let down : remainder (twice * 2 ^ 128) ≡ remainder bottom =
-    ap remainder (sym (mul_assoc twice (2 ^ 64) (2 ^ 64))) ∙ remainder-shl (twice * 2 ^ 64) once 64 e2 ∙ e1
+    ap remainder (sym (up_twice twice)) ∙ remainder-shl (twice * 2 ^ 64) once 64 e2 ∙ e1
     in
     pdot_only a b (top ⊕ twice) small
     (ap remainder (shl-xor top twice 128)

@@ -1,50 +1,22 @@
 -- The product of two words, by products of their coefficients at every fifth place.
-use Rattle.std.proofs.Common.{◌≡◌, refl, sym, ap, ap₂, ◌∙◌, ℕ, zero, suc, ◌+◌, ◌*◌, ◌/◌, ◌%◌, ◌^◌, ◌<◌, add-zero, lt_of_le_of_lt, mod-eq_of_lt, mod-lt, add-one, arith, bit_and, bit_xor, lit<, pow_pos}
-use Rattle.std.proofs.Math.Arith.{bin_ind}
-use Rattle.std.proofs.lemmas.Nat.{and_block, and_le_l, and_mask, and_mod, and_shr, xor_mod, xor_shr, shr_split}
+use Rattle.std.proofs.Common.{◌≡◌, sym, ap, ap₂, ◌∙◌, ℕ, zero, suc, ◌+◌, ◌*◌, ◌/◌, ◌%◌, ◌^◌, ◌<◌, add-zero, lt_of_le_of_lt, mod-eq_of_lt, mod-lt, add-one, arith, bit_and, bit_xor, lit<, pow_pos}
+use Rattle.std.proofs.lemmas.Nat.Bits.{bit_at_and, bit_at_xor, same_from_bits}
+use Rattle.std.proofs.lemmas.Nat.{and_block, and_le_l, and_mask, shr_split}
 use Rattle.std.specs.Int.Bits.{and_zero_r}
 use Rattle.units.specs.Sums.{◌⊕◌}
-use Rattle.units.proofs.SumLaws.{low_either}
 use Rattle.polynomials.specs.Polynomials.{product}
 use Rattle.polynomials.specs.Words.{holes}
 use Rattle.polynomials.proofs.ProductLaws.{product_lt, product-shl_r, product-xor_r}
-use Rattle.polynomials.proofs.HoleLaws.{mask_odds, odds, odds-product, ones, Upto-odds}
+use Rattle.polynomials.proofs.HoleLaws.{mask_odds, odds, odds-product, Upto-odds}
 
 -- ---- masks
 
-by_digits : (a b : ℕ) → a / 2 ≡ b / 2 → a % 2 ≡ b % 2 → a ≡ b
-by_digits a b hi lo = omega arith
-
-and-xor_low : (a b c : ℕ) → bit_and (a % 2) (b % 2 ⊕ c % 2) ≡ bit_and (a % 2) (b % 2) ⊕ bit_and (a % 2) (c % 2)
-and-xor_low a b c =
-    low_either (λ (i : ℕ). bit_and i (b % 2 ⊕ c % 2) ≡ bit_and i (b % 2) ⊕ bit_and i (c % 2)) refl
-    (low_either (λ (j : ℕ). bit_and 1 (j ⊕ c % 2) ≡ bit_and 1 j ⊕ bit_and 1 (c % 2))
-    (low_either (λ (k : ℕ). bit_and 1 (0 ⊕ k) ≡ bit_and 1 0 ⊕ bit_and 1 k) refl refl c)
-    (low_either (λ (k : ℕ). bit_and 1 (1 ⊕ k) ≡ bit_and 1 1 ⊕ bit_and 1 k) refl refl c)
-    b)
-    a
-
 and_xor : (a b c : ℕ) → bit_and a (b ⊕ c) ≡ bit_and a b ⊕ bit_and a c
-and_xor =
-    bin_ind (λ (n : ℕ). (b c : ℕ) → bit_and n (b ⊕ c) ≡ bit_and n b ⊕ bit_and n c) (λ b c. refl)
-    (λ n ih b c.
-    by_digits (bit_and n (b ⊕ c)) (bit_and n b ⊕ bit_and n c)
-    (and_shr n (b ⊕ c) 1
-    ∙ ap (bit_and (n / 2)) (xor_shr b c 1)
-    ∙ ih (b / 2) (c / 2)
-    ∙ sym (xor_shr (bit_and n b) (bit_and n c) 1 ∙ ap₂ bit_xor (and_shr n b 1) (and_shr n c 1)))
-    (and_mod n (b ⊕ c) 1
-    ∙ ap (bit_and (n % 2)) (xor_mod b c 1)
-    ∙ and-xor_low n b c
-    ∙ sym (xor_mod (bit_and n b) (bit_and n c) 1 ∙ ap₂ bit_xor (and_mod n b 1) (and_mod n c 1))))
+and_xor a b c = same_from_bits _ _ (λ i. grind (arith, bit_at_and, bit_at_xor))
 
 and-shl : (y m k : ℕ) → bit_and (y / 2 ^ k) m * 2 ^ k ≡ bit_and y (m * 2 ^ k)
 and-shl y m k =
-    sym
-    (ap₂ bit_and (sym (shr_split y k)) (sym (add-zero (m * 2 ^ k)))
-    ∙ and_block k (y / 2 ^ k) m (y % 2 ^ k) 0 (mod-lt y (pow_pos k)) (pow_pos k)
-    ∙ ap (λ (x : ℕ). bit_and (y / 2 ^ k) m * 2 ^ k + x) (and_zero_r (y % 2 ^ k))
-    ∙ add-zero (bit_and (y / 2 ^ k) m * 2 ^ k))
+    sym (simp (shr_split, add-zero, and_zero_r) at (and_block k (y / 2 ^ k) m (y % 2 ^ k) 0 (mod-lt y (pow_pos k)) (pow_pos k)))
 
 -- every fifth place of a product of two words
 abbrev pub wide_holes : ℕ
@@ -58,12 +30,7 @@ covered (suc j) = covered j ⊕ holes * 2 ^ j
 pub all-covered : (y : ℕ) → y < 2 ^ 64 → bit_and y (covered 5) ≡ y
 all-covered y h = and_mask y 65 ∙ mod-eq_of_lt (omega arith)
 
-holes_are : ones 13 ≡ holes
-holes_are = refl
-
-wide_holes_are : ones 26 ≡ wide_holes
-wide_holes_are = refl
-
+-- `ones 13` computes to the holes, and `ones 26` to the wide ones
 pub sparse_product : (x y : ℕ) → bit_and (bit_and x holes * bit_and y holes) wide_holes ≡ product (bit_and x holes) (bit_and y holes)
 sparse_product x y =
     let a = odds 13 x in
