@@ -1,6 +1,6 @@
 -- Integer products with holes. Where the digits in base 32 are 0 or 1, and few, no digit of the integer product carries into the
 -- next, and the digits that are odd are the product of the polynomials.
-use Rattle.std.proofs.Common.{◌≡◌, refl, sym, ap, ap₂, ◌∙◌, subst, ℕ, zero, suc, ◌+◌, ◌*◌, ◌/◌, ◌%◌, ◌≤◌, ◌<◌, zero-le, add-mul, add-zero, div-add-mod', mod-lt, mul_assoc, mul_comm, one-mul, suc-add, zero-add, zero-mul, add-one, arith, bit_and, bit_xor, lit<}
+use Rattle.std.proofs.Common.{◌≡◌, refl, sym, ap, ap₂, ◌∙◌, subst, ℕ, zero, suc, ◌+◌, ◌*◌, ◌/◌, ◌%◌, ◌≤◌, ◌<◌, zero-le, add-mul, add-zero, div-add-mod', mod-lt, mul_right_comm, one-mul, suc-add, zero-add, zero-mul, add-one, arith, bit_and, bit_xor, lit<}
 use Rattle.std.proofs.lemmas.Nat.{and_block, and_mask, xor_block, xor_mod}
 use Rattle.std.specs.Int.Bits.{and_zero_r, xor_add_and, xor_shifted}
 use Rattle.units.specs.Sums.{◌⊕◌}
@@ -95,7 +95,7 @@ odds-product (suc n) k x y b hx hy =
     let all : x * y ≡ high * 32 + x % 32 * y =
     ap (λ (i : ℕ). i * y) (sym (div-add-mod' x 32))
     ∙ add-mul (x / 32 * 32) (x % 32) y
-    ∙ ap (λ (i : ℕ). i + x % 32 * y) (mul_assoc (x / 32) 32 y ∙ ap (λ (i : ℕ). x / 32 * i) (mul_comm 32 y) ∙ sym (mul_assoc (x / 32) y 32))
+    ∙ ap (λ (i : ℕ). i + x % 32 * y) (mul_right_comm (x / 32) 32 y)
     in
     let left : Upto n top (high * 32) = (subst (λ (i : ℕ). i ≤ n) (sym lo) zero-le, subst (Upto n (n + k)) (sym hi) rest.0) in
     let right : Upto 1 top (x % 32 * y) =

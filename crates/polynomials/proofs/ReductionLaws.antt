@@ -58,13 +58,8 @@ divided_is v =
 
 -- ---- three products
 
-pub middle_is : (a b c d : ℕ) → product (a ⊕ b) (c ⊕ d) ⊕ product a c ⊕ product b d ≡ product a d ⊕ product b c
-middle_is a b c d =
-    ap (λ (x : ℕ). x ⊕ product a c ⊕ product b d) (product-xor_l a b (c ⊕ d) ∙ ap₂ bit_xor (product-xor_r a c d) (product-xor_r b c d))
-    ∙ rest (product a c) (product a d) (product b c) (product b d)
-  where
-    rest : (p q r s : ℕ) → (p ⊕ q) ⊕ (r ⊕ s) ⊕ p ⊕ s ≡ q ⊕ r
-    rest p q r s = simp terms
+middle_is : (a b c d : ℕ) → product (a ⊕ b) (c ⊕ d) ⊕ product a c ⊕ product b d ≡ product a d ⊕ product b c
+middle_is a b c d = simp (product-xor_l, product-xor_r, terms)
 
 blocks : (p q r s : ℕ) → product (p * 2 ^ 64 ⊕ q) (r * 2 ^ 64 ⊕ s) ≡ product p r * 2 ^ 128 ⊕ (product q r ⊕ product p s) * 2 ^ 64 ⊕ product q s
 blocks p q r s =

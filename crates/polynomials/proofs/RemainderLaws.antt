@@ -2,10 +2,10 @@
 use Rattle.std.proofs.Common.{◌≡◌, refl, sym, ap, ap₂, ◌∙◌, subst, ℕ, zero, suc, ◌+◌, ◌*◌, ◌/◌, ◌%◌, ◌^◌, ◌<◌, add-zero, div-add-mod', div-lt_iff_lt-mul, mod-lt, mul_assoc, mul-one, one-mul, pow-suc, zero-mul, arith, bit_xor, lit<}
 use Rattle.std.proofs.Math.Arith.{bin_ind}
 use Rattle.std.proofs.Math.Nat.{div-eq_of_lt}
-use Rattle.std.proofs.lemmas.Nat.{xor_block, xor_comm, xor_mod, xor_shr}
+use Rattle.std.proofs.lemmas.Nat.{xor_block, xor_mod, xor_shr}
 use Rattle.std.specs.Int.Bits.{xor_assoc, xor_shifted, xor_zero_r}
 use Rattle.units.specs.Sums.{◌⊕◌}
-use Rattle.units.proofs.SumLaws.{bit_either, low_either, shl-xor, xor_cancel, xor_four, xor_low}
+use Rattle.units.proofs.SumLaws.{bit_either, low_either, shl-xor, xor_four, xor_low, terms}
 use Rattle.polynomials.specs.Polynomials.{Congruent, RemainderStands, digitwise, lowered, modulus, product, remainder}
 use Rattle.polynomials.proofs.ProductLaws.{digitwise_step, parts, product_bit, product_comm, product-shl_l, product_step, product-xor_l, product-zero_l, product-zero_r}
 
@@ -142,9 +142,7 @@ remainder-congruent =
     top n = down n / 2 ^ 128 % 2
 
     back : (r : ℕ) → r ≡ product (r / 2 ^ 128 % 2) modulus ⊕ lowered r
-    back r =
-        let taken = r / 2 ^ 128 % 2 * modulus in
-        sym (ap (bit_xor taken) (xor_comm r taken) ∙ xor_cancel taken r) ∙ ap (λ (x : ℕ). x ⊕ lowered r) (sym (product_bit (r / 2 ^ 128) modulus))
+    back r = simp (product_bit (r / 2 ^ 128) modulus, terms)
 
     again : (n q : ℕ) → n / 2 ≡ product q modulus ⊕ remainder (n / 2) → n ≡ product (q * 2 ⊕ top n) modulus ⊕ remainder n
     again n q e =
@@ -167,13 +165,11 @@ same-congruent a b e =
     let p = remainder-congruent a in
     let q = remainder-congruent b in
     let m = product p.0 modulus in
-    let n = product q.0 modulus in (
-      p.0 ⊕ q.0,
-      p.1
-          ∙ ap (bit_xor m) (e ∙ sym (xor_cancel n (remainder b)) ∙ ap (bit_xor n) (sym q.1))
-          ∙ sym (xor_assoc m n b)
-          ∙ ap (λ (x : ℕ). x ⊕ b) (sym (product-xor_l p.0 q.0 modulus)),
-    )
+    let n = product q.0 modulus in
+    (p.0 ⊕ q.0, p.1 ∙ ap (bit_xor m) e ∙ sym (ap₂ bit_xor (product-xor_l p.0 q.0 modulus) q.1 ∙ meet m n (remainder b)))
+  where
+    meet : (m n r : ℕ) → (m ⊕ n) ⊕ (n ⊕ r) ≡ m ⊕ r
+    meet m n r = simp terms
 
 pub remainder_stands : RemainderStands
 remainder_stands =
