@@ -22,20 +22,16 @@ remainder-zero = refl
 lowered-xor : (a b : ℕ) → lowered (a ⊕ b) ≡ lowered a ⊕ lowered b
 unfolding lowered
 lowered-xor a b =
-    ap (λ (x : ℕ). (a ⊕ b) ⊕ x) (ap (λ (x : ℕ). x % 2 * modulus) (xor_shr a b 128) ∙ xor_low (a / 2 ^ 128) (b / 2 ^ 128) modulus)
-    ∙ xor_four a b (a / 2 ^ 128 % 2 * modulus) (b / 2 ^ 128 % 2 * modulus)
+    rw (xor_shr a b 128, xor_low (a / 2 ^ 128) (b / 2 ^ 128) modulus)
+    (xor_four a b (a / 2 ^ 128 % 2 * modulus) (b / 2 ^ 128 % 2 * modulus))
 
 pub remainder-xor : (a b : ℕ) → remainder (a ⊕ b) ≡ remainder a ⊕ remainder b
 remainder-xor =
     bin_ind (λ (n : ℕ). (b : ℕ) → remainder (n ⊕ b) ≡ remainder n ⊕ remainder b)
-    (λ b. sym (ap (λ (x : ℕ). x ⊕ remainder b) remainder-zero))
+    (λ b. rw remainder-zero)
     (λ n ih b.
-    let down = λ (k : ℕ). remainder (k / 2) * 2 + k % 2 in
-    remainder_step (n ⊕ b)
-    ∙ ap₂ (λ (x y : ℕ). lowered (x * 2 + y)) (ap remainder (xor_shr n b 1) ∙ ih (b / 2)) (xor_mod n b 1)
-    ∙ ap lowered (sym (xor_block 1 (remainder (n / 2)) (remainder (b / 2)) (n % 2) (b % 2) (mod-lt n (lit< tt)) (mod-lt b (lit< tt))))
-    ∙ lowered-xor (down n) (down b)
-    ∙ sym (ap₂ bit_xor (remainder_step n) (remainder_step b)))
+    rw (remainder_step (n ⊕ b), remainder_step n, remainder_step b, ← lowered-xor, xor_shr n b 1, xor_mod n b 1, ih (b / 2))
+    (ap lowered (sym (xor_block 1 (remainder (n / 2)) (remainder (b / 2)) (n % 2) (b % 2) (mod-lt n (lit< tt)) (mod-lt b (lit< tt))))))
 
 -- ---- below x^128
 
@@ -49,21 +45,19 @@ lowered_lt r h =
 
 pub remainder_lt : (a : ℕ) → remainder a < 2 ^ 128
 remainder_lt =
-    bin_ind (λ (n : ℕ). remainder n < 2 ^ 128) (subst (λ (x : ℕ). x < 2 ^ 128) (sym remainder-zero) (lit< tt))
-    (λ n ih. subst (λ (x : ℕ). x < 2 ^ 128) (sym (remainder_step n)) (lowered_lt (remainder (n / 2) * 2 + n % 2) (omega arith)))
+    bin_ind (λ (n : ℕ). remainder n < 2 ^ 128)
+    (rw remainder-zero (lit< tt))
+    (λ n ih. rw (remainder_step n) (lowered_lt (remainder (n / 2) * 2 + n % 2) (omega arith)))
 
 lowered_small : (r : ℕ) → r < 2 ^ 128 → lowered r ≡ r
 unfolding lowered
-lowered_small r h = ap (λ (x : ℕ). r ⊕ x % 2 * modulus) (div-eq_of_lt h) ∙ xor_zero_r r
+lowered_small r h = rw (div-eq_of_lt h, xor_zero_r)
 
 pub remainder_small : (a : ℕ) → a < 2 ^ 128 → remainder a ≡ a
 remainder_small =
-    bin_ind (λ (n : ℕ). n < 2 ^ 128 → remainder n ≡ n) (λ h. remainder-zero)
-    (λ n ih h.
-    remainder_step n
-    ∙ ap (λ (x : ℕ). lowered (x * 2 + n % 2)) (ih (omega arith))
-    ∙ ap lowered (div-add-mod' n 2)
-    ∙ lowered_small n h)
+    bin_ind (λ (n : ℕ). n < 2 ^ 128 → remainder n ≡ n)
+    (λ h. remainder-zero)
+    (λ n ih h. rw (remainder_step n, ih (omega arith), div-add-mod') (lowered_small n h))
 
 pub remainder_again : (a : ℕ) → remainder (remainder a) ≡ remainder a
 remainder_again a = remainder_small (remainder a) (remainder_lt a)
@@ -74,46 +68,33 @@ remainder_dbl : (a : ℕ) → remainder (a * 2) ≡ lowered (remainder a * 2)
 remainder_dbl a =
     let hi : a * 2 / 2 ≡ a = omega arith in
     let lo : a * 2 % 2 ≡ 0 = omega arith in
-    remainder_step (a * 2) ∙ ap₂ (λ (x y : ℕ). lowered (remainder x * 2 + y)) hi lo ∙ ap lowered (add-zero (remainder a * 2))
+    remainder_step (a * 2) ∙ rw (hi, lo, add-zero)
 
 pub remainder-shl : (a b k : ℕ) → remainder a ≡ remainder b → remainder (a * 2 ^ k) ≡ remainder (b * 2 ^ k)
-remainder-shl a b zero e = ap remainder (mul-one a) ∙ e ∙ sym (ap remainder (mul-one b))
-remainder-shl a b (suc k) e =
-    ap remainder (up a)
-    ∙ remainder_dbl (a * 2 ^ k)
-    ∙ ap (λ (x : ℕ). lowered (x * 2)) (remainder-shl a b k e)
-    ∙ sym (ap remainder (up b) ∙ remainder_dbl (b * 2 ^ k))
-  where
-    up : (n : ℕ) → n * 2 ^ suc k ≡ n * 2 ^ k * 2
-    up n = ap (λ (x : ℕ). n * x) (pow-suc 2 k) ∙ sym (mul_assoc n (2 ^ k) 2)
+remainder-shl a b zero e = rw (mul-one a, mul-one b) e
+remainder-shl a b (suc k) e = simp (pow-suc 2 k, ← mul_assoc, remainder_dbl, remainder-shl a b k e)
 
 remainder_bit : (n a : ℕ) → remainder (n % 2 * a) ≡ n % 2 * remainder a
 remainder_bit n a =
     low_either (λ (k : ℕ). remainder (k * a) ≡ k * remainder a)
-    (ap remainder (zero-mul a) ∙ remainder-zero ∙ sym (zero-mul (remainder a)))
-    (ap remainder (one-mul a) ∙ sym (one-mul (remainder a)))
+    (simp (zero-mul, remainder-zero))
+    (simp one-mul)
     n
 
 -- only the remainder of a factor counts
 pub remainder-product_r : (a b : ℕ) → remainder (product a (remainder b)) ≡ remainder (product a b)
 remainder-product_r a b =
     bin_ind (λ (n : ℕ). remainder (product n (remainder b)) ≡ remainder (product n b))
-    (ap remainder (product-zero_l (remainder b)) ∙ sym (ap remainder (product-zero_l b)))
-    (λ n ih.
-    opened n (remainder b)
-    ∙ ap₂ (λ (x y : ℕ). n % 2 * x ⊕ lowered (y * 2)) (remainder_again b) ih
-    ∙ sym (opened n b))
+    (simp product-zero_l)
+    (λ n ih. opened n (remainder b) ∙ rw (remainder_again b, ih) (sym (opened n b)))
     a
   where
     opened : (n c : ℕ) → remainder (product n c) ≡ n % 2 * remainder c ⊕ lowered (remainder (product (n / 2) c) * 2)
-    opened n c =
-        ap remainder (product_step n c)
-        ∙ remainder-xor (n % 2 * c) (product (n / 2) c * 2)
-        ∙ ap₂ bit_xor (remainder_bit n c) (remainder_dbl (product (n / 2) c))
+    opened n c = rw (product_step n c, remainder-xor, remainder_bit, remainder_dbl)
 
 pub remainder-product_l : (a b : ℕ) → remainder (product (remainder a) b) ≡ remainder (product a b)
 remainder-product_l a b =
-    ap remainder (product_comm (remainder a) b) ∙ remainder-product_r b a ∙ ap remainder (product_comm b a)
+    rw (product_comm (remainder a) b, remainder-product_r, product_comm b a)
 
 -- ---- multiples of the modulus
 
@@ -123,10 +104,7 @@ remainder-modulus = refl
 
 remainder_multiple : (q : ℕ) → remainder (product q modulus) ≡ 0
 remainder_multiple q =
-    sym (remainder-product_r q modulus)
-    ∙ ap (λ (x : ℕ). remainder (product q x)) remainder-modulus
-    ∙ ap remainder (product-zero_r q)
-    ∙ remainder-zero
+    sym (remainder-product_r q modulus) ∙ rw (remainder-modulus, product-zero_r, remainder-zero)
 
 -- what is taken away from a polynomial is a multiple of the modulus
 pub remainder-congruent : (a : ℕ) → Congruent a (remainder a)
@@ -158,7 +136,7 @@ remainder-congruent =
 -- congruent polynomials have one remainder, and polynomials of one remainder are congruent
 pub congruent-same : (a b : ℕ) → Congruent a b → remainder a ≡ remainder b
 congruent-same a b h =
-    ap remainder h.1 ∙ remainder-xor (product h.0 modulus) b ∙ ap (λ (x : ℕ). x ⊕ remainder b) (remainder_multiple h.0)
+    ap remainder h.1 ∙ rw (remainder-xor, remainder_multiple)
 
 pub same-congruent : (a b : ℕ) → remainder a ≡ remainder b → Congruent a b
 same-congruent a b e =
