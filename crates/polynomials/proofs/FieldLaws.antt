@@ -1,5 +1,5 @@
 -- The product of the field.
-use Rattle.std.proofs.Common.{◌≡◌, refl, sym, ap, ap₂, ◌∙◌, ℕ, ◌*◌, ◌^◌, ◌<◌}
+use Rattle.std.proofs.Common.{◌≡◌, refl, sym, ap, ◌∙◌, ℕ, ◌*◌, ◌^◌, ◌<◌}
 use Rattle.units.specs.Sums.{◌⊕◌}
 use Rattle.polynomials.specs.Polynomials.{Congruent, digitwise, lowered, product, remainder}
 use Rattle.polynomials.specs.Field.{FieldStands, Quotient, inverse, one, pdot}
@@ -13,10 +13,7 @@ inverse_is = refl
 -- times x^128 and times x^-128 is times 1
 there_and_back : (a : ℕ) → remainder (product (product a inverse) (2 ^ 128)) ≡ remainder a
 there_and_back a =
-    ap remainder (product_assoc a inverse (2 ^ 128))
-    ∙ sym (remainder-product_r a (product inverse (2 ^ 128)))
-    ∙ ap (λ (x : ℕ). remainder (product a x)) inverse_is
-    ∙ ap remainder (product_one_r a)
+    rw (product_assoc, ← remainder-product_r a (product inverse (2 ^ 128)), inverse_is, product_one_r)
 
 pub pdot_lt : (a b : ℕ) → pdot a b < 2 ^ 128
 unfolding pdot
@@ -51,35 +48,29 @@ pdot_quotient a b =
 pub pdot-xor_l : (a b c : ℕ) → pdot (a ⊕ b) c ≡ pdot a c ⊕ pdot b c
 unfolding pdot
 pdot-xor_l a b c =
-    ap (λ (x : ℕ). remainder (product x inverse)) (product-xor_l a b c)
-    ∙ ap remainder (product-xor_l (product a c) (product b c) inverse)
-    ∙ remainder-xor (product (product a c) inverse) (product (product b c) inverse)
+    simp (product-xor_l, remainder-xor)
 
 pub pdot_comm : (a b : ℕ) → pdot a b ≡ pdot b a
 unfolding pdot
-pdot_comm a b = ap (λ (x : ℕ). remainder (product x inverse)) (product_comm a b)
+pdot_comm a b = rw (product_comm a b)
 
 pub pdot-xor_r : (a b c : ℕ) → pdot a (b ⊕ c) ≡ pdot a b ⊕ pdot a c
-pdot-xor_r a b c = pdot_comm a (b ⊕ c) ∙ pdot-xor_l b c a ∙ ap₂ (λ (x y : ℕ). x ⊕ y) (pdot_comm b a) (pdot_comm c a)
+pdot-xor_r a b c = rw (pdot_comm a (b ⊕ c), pdot-xor_l, pdot_comm b a, pdot_comm c a)
 
 -- a product of three, with x^-128 twice
 three : (a b c : ℕ) → pdot (pdot a b) c ≡ remainder (product (product (product a b) c) (product inverse inverse))
 unfolding pdot
 three a b c =
     let d = product a b in
-    ap remainder (product_assoc (remainder (product d inverse)) c inverse)
-    ∙ remainder-product_l (product d inverse) (product c inverse)
-    ∙ ap remainder
+    rw (product_assoc (remainder (product d inverse)) c inverse, remainder-product_l)
+    (ap remainder
     (product_assoc d inverse (product c inverse)
-    ∙ ap (product d) (sym (product_assoc inverse c inverse) ∙ ap (λ (x : ℕ). product x inverse) (product_comm inverse c) ∙ product_assoc c inverse inverse)
-    ∙ sym (product_assoc d c (product inverse inverse)))
+    ∙ rw (← product_assoc inverse c inverse, product_comm inverse c, product_assoc c inverse inverse)
+    (sym (product_assoc d c (product inverse inverse)))))
 
 pub pdot_assoc : (a b c : ℕ) → pdot (pdot a b) c ≡ pdot a (pdot b c)
 pdot_assoc a b c =
-    three a b c
-    ∙ ap (λ (x : ℕ). remainder (product x (product inverse inverse))) (product_assoc a b c ∙ product_comm a (product b c))
-    ∙ sym (three b c a)
-    ∙ pdot_comm (pdot b c) a
+    three a b c ∙ rw (product_assoc a b c, product_comm a (product b c)) (sym (three b c a)) ∙ pdot_comm (pdot b c) a
 
 one_is : remainder (product one inverse) ≡ 1
 unfolding remainder product digitwise lowered
@@ -88,11 +79,7 @@ one_is = refl
 pub pdot_one : (a : ℕ) → a < 2 ^ 128 → pdot a one ≡ a
 unfolding pdot
 pdot_one a h =
-    ap remainder (product_assoc a one inverse)
-    ∙ sym (remainder-product_r a (product one inverse))
-    ∙ ap (λ (x : ℕ). remainder (product a x)) one_is
-    ∙ ap remainder (product_one_r a)
-    ∙ remainder_small a h
+    rw (product_assoc, ← remainder-product_r a (product one inverse), one_is, product_one_r) (remainder_small a h)
 
 pub field_stands : FieldStands
 field_stands =

@@ -35,7 +35,7 @@ pub Upto-odds : (n p : ℕ) → Upto 1 n (odds n p)
 Upto-odds zero p = refl
 Upto-odds (suc n) p =
     let hi : (odds n (p / 32) * 32 + p % 2) / 32 ≡ odds n (p / 32) = omega arith in
-    (omega arith, subst (Upto 1 n) (sym hi) (Upto-odds n (p / 32)))
+    (omega arith, rw hi (Upto-odds n (p / 32)))
 
 Upto-zero : (m n : ℕ) → Upto m n 0
 Upto-zero m zero = refl
@@ -43,22 +43,22 @@ Upto-zero m (suc n) = (zero-le, Upto-zero m n)
 
 -- further digits are 0
 Upto-suc : (m n p : ℕ) → Upto m n p → Upto m (suc n) p
-Upto-suc m zero p h = subst (Upto m 1) (sym h) (Upto-zero m 1)
+Upto-suc m zero p h = rw h (Upto-zero m 1)
 Upto-suc m (suc n) p h = (h.0, Upto-suc m n (p / 32) h.1)
 
 Upto-add : (m n k p : ℕ) → Upto m k p → Upto m (n + k) p
-Upto-add m zero k p h = subst (λ (x : ℕ). Upto m x p) (sym (zero-add k)) h
-Upto-add m (suc n) k p h = subst (λ (x : ℕ). Upto m x p) (sym (suc-add n k)) (Upto-suc m (n + k) p (Upto-add m n k p h))
+Upto-add m zero k p h = rw zero-add h
+Upto-add m (suc n) k p h = rw suc-add (Upto-suc m (n + k) p (Upto-add m n k p h))
 
 odds-zero : (n : ℕ) → odds n 0 ≡ 0
 odds-zero zero = refl
-odds-zero (suc n) = ap (λ (x : ℕ). x * 32 + 0) (odds-zero n)
+odds-zero (suc n) = rw (odds-zero n)
 
 odds-same : (n p : ℕ) → Upto 1 n p → odds n p ≡ p
 odds-same zero p h = sym h
 odds-same (suc n) p h =
     let low : p % 2 ≡ p % 32 = omega (arith, h.0) in
-    ap₂ (λ (x y : ℕ). x * 32 + y) (odds-same n (p / 32) h.1) low ∙ div-add-mod' p 32
+    rw (odds-same n (p / 32) h.1, low) (div-add-mod' p 32)
 
 odd_sum : (p q : ℕ) → (p + q) % 2 ≡ p % 2 ⊕ q % 2
 odd_sum p q =
@@ -74,17 +74,14 @@ Upto-sum (suc n) m l p q s hp hq =
     let lo : (p + q) % 32 ≤ m + l = omega arith in
     let hi : (p + q) / 32 ≡ p / 32 + q / 32 = omega arith in
     let rest = Upto-sum n m l (p / 32) (q / 32) s hp.1 hq.1 in (
-      (lo, subst (Upto (m + l) n) (sym hi) rest.0),
+      (lo, rw hi rest.0),
       ap₂ (λ (x y : ℕ). x * 32 + y) (ap (odds n) hi ∙ rest.1) (odd_sum p q)
           ∙ sym (xor_block 5 (odds n (p / 32)) (odds n (q / 32)) (p % 2) (q % 2) (omega arith) (omega arith)),
     )
 
 pub odds-product : (n k x y : ℕ) → n < 32 → Upto 1 n x → Upto 1 k y → Upto n (n + k) (x * y) × (odds (n + k) (x * y) ≡ product x y)
 odds-product zero k x y b hx hy =
-    let none : x * y ≡ 0 = ap (λ (i : ℕ). i * y) hx ∙ zero-mul y in (
-      subst (Upto 0 (0 + k)) (sym none) (Upto-zero 0 (0 + k)),
-      ap (odds (0 + k)) none ∙ odds-zero (0 + k) ∙ sym (ap (λ (i : ℕ). product i y) hx ∙ product-zero_l y),
-    )
+    (rw (hx, zero-mul) (Upto-zero 0 (0 + k)), rw (hx, zero-mul, product-zero_l) (odds-zero (0 + k)))
 odds-product (suc n) k x y b hx hy =
     let rest = odds-product n k (x / 32) y (omega arith) hx.1 hy in
     let high = x / 32 * y in

@@ -1,5 +1,5 @@
 -- The remainder by the modulus.
-use Rattle.std.proofs.Common.{◌≡◌, refl, sym, ap, ap₂, ◌∙◌, subst, ℕ, zero, suc, ◌+◌, ◌*◌, ◌/◌, ◌%◌, ◌^◌, ◌<◌, add-zero, div-add-mod', div-lt_iff_lt-mul, mod-lt, mul_assoc, mul-one, one-mul, pow-suc, zero-mul, arith, bit_xor, lit<}
+use Rattle.std.proofs.Common.{◌≡◌, refl, sym, ap, ap₂, ◌∙◌, ℕ, zero, suc, ◌+◌, ◌*◌, ◌/◌, ◌%◌, ◌^◌, ◌<◌, add-zero, div-add-mod', div-lt_iff_lt-mul, mod-lt, mul_assoc, mul-one, one-mul, pow-suc, zero-mul, arith, bit_xor, lit<}
 use Rattle.std.proofs.Math.Arith.{bin_ind}
 use Rattle.std.proofs.Math.Nat.{div-eq_of_lt}
 use Rattle.std.proofs.lemmas.Nat.{xor_block, xor_mod, xor_shr}
@@ -39,9 +39,8 @@ lowered_lt : (r : ℕ) → r < 2 ^ 129 → lowered r < 2 ^ 128
 unfolding lowered
 lowered_lt r h =
     (div-lt_iff_lt-mul {k = 2 ^ 128} {x = lowered r} {y = 1} (lit< tt)).0
-    (subst (λ (x : ℕ). x < 1)
-    (sym (xor_shr r (r / 2 ^ 128 % 2 * modulus) 128 ∙ bit_either (λ (q : ℕ). q ⊕ q % 2 * modulus / 2 ^ 128 ≡ 0) refl refl (r / 2 ^ 128) (omega arith)))
-    (lit< tt))
+    (rw (xor_shr r (r / 2 ^ 128 % 2 * modulus) 128)
+    (bit_either (λ (q : ℕ). q ⊕ q % 2 * modulus / 2 ^ 128 < 1) (lit< tt) (lit< tt) (r / 2 ^ 128) (omega arith)))
 
 pub remainder_lt : (a : ℕ) → remainder a < 2 ^ 128
 remainder_lt =
