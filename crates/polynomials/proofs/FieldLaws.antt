@@ -1,5 +1,5 @@
 -- The product of the field.
-use Rattle.std.proofs.Common.{◌≡◌, refl, sym, ap, ◌∙◌, ℕ, ◌*◌, ◌^◌, ◌<◌}
+use Rattle.std.proofs.Common.{◌≡◌, ℕ, ◌*◌, ◌^◌, ◌<◌, sym, refl, ap, ◌∙◌}
 use Rattle.units.specs.Sums.{◌⊕◌}
 use Rattle.polynomials.specs.Polynomials.{Congruent, digitwise, lowered, product, remainder}
 use Rattle.polynomials.specs.Field.{FieldStands, Quotient, inverse, one, pdot}
@@ -24,7 +24,7 @@ unfolding pdot
 pdot-congruent a b =
     let c = product (product a b) inverse in
     same-congruent (product a b) (remainder c * 2 ^ 128)
-    (sym (ap remainder (sym (product-pow (remainder c) 128)) ∙ remainder-product_l c (2 ^ 128) ∙ there_and_back (product a b)))
+    (sym (rw (← product-pow (remainder c) 128, remainder-product_l) (there_and_back (product a b))))
 
 -- how any engine is seen to give pdot
 pub pdot_only : (a b r : ℕ) → r < 2 ^ 128 → remainder (r * 2 ^ 128) ≡ remainder (product a b) → r ≡ pdot a b
@@ -32,10 +32,7 @@ unfolding pdot
 pdot_only a b r h e =
     sym (remainder_small r h)
     ∙ sym (there_and_back r)
-    ∙ ap remainder (product-pow (product r inverse) 128 ∙ sym (product-shl_l r inverse 128))
-    ∙ sym (remainder-product_l (r * 2 ^ 128) inverse)
-    ∙ ap (λ (x : ℕ). remainder (product x inverse)) e
-    ∙ remainder-product_l (product a b) inverse
+    ∙ rw (product-pow (product r inverse) 128, ← product-shl_l r inverse 128, ← remainder-product_l (r * 2 ^ 128) inverse, e) (remainder-product_l (product a b) inverse)
 
 pub pdot_quotient : (a b : ℕ) → Quotient a b (pdot a b)
 pdot_quotient a b =

@@ -1,6 +1,6 @@
 -- Integer products with holes. Where the digits in base 32 are 0 or 1, and few, no digit of the integer product carries into the
 -- next, and the digits that are odd are the product of the polynomials.
-use Rattle.std.proofs.Common.{◌≡◌, refl, sym, ap, ap₂, ◌∙◌, subst, ℕ, zero, suc, ◌+◌, ◌*◌, ◌/◌, ◌%◌, ◌≤◌, ◌<◌, zero-le, add-mul, add-zero, div-add-mod', mod-lt, mul_right_comm, one-mul, suc-add, zero-add, zero-mul, add-one, arith, bit_and, bit_xor, lit<}
+use Rattle.std.proofs.Common.{◌≡◌, ℕ, zero, suc, ◌+◌, ◌*◌, ◌/◌, ◌%◌, ◌<◌, ◌≤◌, bit_and, bit_xor, sym, refl, ap, ◌∙◌, subst, ap₂, zero-le, add-zero, mod-lt, add-mul, suc-add, one-mul, div-add-mod', zero-add, zero-mul, mul_right_comm, add-one, arith, lit<}
 use Rattle.std.proofs.lemmas.Nat.{and_block, and_mask, xor_block, xor_mod}
 use Rattle.std.specs.Int.Bits.{and_zero_r, xor_add_and, xor_shifted}
 use Rattle.units.specs.Sums.{◌⊕◌}
@@ -29,7 +29,7 @@ mask_odds (suc n) p =
     let low : p % 32 % 2 ≡ p % 2 = omega arith in
     ap (λ (x : ℕ). bit_and x (ones n * 32 + 1)) (sym (div-add-mod' p 32))
     ∙ and_block 5 (p / 32) (ones n) (p % 32) 1 (mod-lt p (lit< tt)) (lit< tt)
-    ∙ ap₂ (λ (x y : ℕ). x * 32 + y) (mask_odds n (p / 32)) (and_mask (p % 32) 1 ∙ low)
+    ∙ rw (mask_odds n (p / 32), and_mask (p % 32) 1, low)
 
 pub Upto-odds : (n p : ℕ) → Upto 1 n (odds n p)
 Upto-odds zero p = refl
@@ -75,8 +75,8 @@ Upto-sum (suc n) m l p q s hp hq =
     let hi : (p + q) / 32 ≡ p / 32 + q / 32 = omega arith in
     let rest = Upto-sum n m l (p / 32) (q / 32) s hp.1 hq.1 in (
       (lo, rw hi rest.0),
-      ap₂ (λ (x y : ℕ). x * 32 + y) (ap (odds n) hi ∙ rest.1) (odd_sum p q)
-          ∙ sym (xor_block 5 (odds n (p / 32)) (odds n (q / 32)) (p % 2) (q % 2) (omega arith) (omega arith)),
+      rw (hi, rest.1, odd_sum)
+          (sym (xor_block 5 (odds n (p / 32)) (odds n (q / 32)) (p % 2) (q % 2) (omega arith) (omega arith))),
     )
 
 pub odds-product : (n k x y : ℕ) → n < 32 → Upto 1 n x → Upto 1 k y → Upto n (n + k) (x * y) × (odds (n + k) (x * y) ≡ product x y)
@@ -89,12 +89,8 @@ odds-product (suc n) k x y b hx hy =
     let hi : high * 32 / 32 ≡ high = omega arith in
     let lo : high * 32 % 32 ≡ 0 = omega arith in
     let even : high * 32 % 2 ≡ 0 = omega arith in
-    let all : x * y ≡ high * 32 + x % 32 * y =
-    ap (λ (i : ℕ). i * y) (sym (div-add-mod' x 32))
-    ∙ add-mul (x / 32 * 32) (x % 32) y
-    ∙ ap (λ (i : ℕ). i + x % 32 * y) (mul_right_comm (x / 32) 32 y)
-    in
-    let left : Upto n top (high * 32) = (subst (λ (i : ℕ). i ≤ n) (sym lo) zero-le, subst (Upto n (n + k)) (sym hi) rest.0) in
+    let all : x * y ≡ high * 32 + x % 32 * y = rw (mul_right_comm (x / 32) y 32, ← add-mul, div-add-mod') in
+    let left : Upto n top (high * 32) = (rw lo zero-le, rw hi rest.0) in
     let right : Upto 1 top (x % 32 * y) =
     bit_either (λ (i : ℕ). Upto 1 top (i * y))
     (rw zero-mul (Upto-zero 1 top))
@@ -104,19 +100,10 @@ odds-product (suc n) k x y b hx hy =
     in
     let whole = Upto-sum top n 1 (high * 32) (x % 32 * y) (omega arith) left right in
     let digits : odds top (high * 32) ≡ product (x / 32) y * 32 =
-    ap₂ (λ (i j : ℕ). odds (n + k) i * 32 + j) hi even ∙ add-zero (odds (n + k) high * 32) ∙ ap (λ (i : ℕ). i * 32) rest.1
+    rw (hi, even, add-zero, rest.1)
     in
     let joined : product (x / 32) y * 32 ⊕ x % 32 * y ≡ product x y =
-    ap₂ bit_xor (sym (product-shl_l (x / 32) y 5))
-    (sym (product_digit (x % 32) y hx.0))
-    ∙ sym (product-xor_l (x / 32 * 32) (x % 32) y)
-    ∙ ap (λ (i : ℕ). product i y) (xor_shifted (x / 32) 5 (x % 32) (mod-lt x (lit< tt)) ∙ div-add-mod' x 32)
-    in (
-      subst (λ (i : ℕ). Upto (suc n) i (x * y)) (sym (suc-add n k))
-          (subst (Upto (suc n) top) (sym all) (subst (λ (i : ℕ). Upto i top (high * 32 + x % 32 * y)) (add-one n) whole.0)),
-      ap (λ (i : ℕ). odds i (x * y)) (suc-add n k)
-          ∙ ap (odds top) all
-          ∙ whole.1
-          ∙ ap₂ bit_xor digits (odds-same top (x % 32 * y) right)
-          ∙ joined,
-    )
+    rw (← product-shl_l (x / 32) y 5, ← product_digit (x % 32) y hx.0, ← product-xor_l)
+    (ap (λ (i : ℕ). product i y) (xor_shifted (x / 32) 5 (x % 32) (mod-lt x (lit< tt)) ∙ div-add-mod' x 32))
+    in
+    (rw (suc-add, all) (subst (λ (i : ℕ). Upto i top (high * 32 + x % 32 * y)) (add-one n) whole.0), rw (suc-add, all) (whole.1 ∙ ap₂ bit_xor digits (odds-same top (x % 32 * y) right) ∙ joined))

@@ -1,5 +1,5 @@
 -- The product of polynomials.
-use Rattle.std.proofs.Common.{◌≡◌, refl, sym, ap, ap₂, ◌∙◌, ℕ, zero, suc, ◌+◌, ◌*◌, ◌/◌, ◌%◌, ◌^◌, ◌≤◌, ◌<◌, div-add-mod', le_refl, le_trans, mod-lt, mul_assoc, mul-one, mul-zero, not-suc-le-zero, one-mul, pow-suc, suc-add, zero-mul, arith, bit_xor, lit<, pow-add, pow_mono, pow_pos}
+use Rattle.std.proofs.Common.{◌≡◌, ℕ, zero, suc, ◌+◌, ◌*◌, ◌/◌, ◌%◌, ◌^◌, ◌<◌, ◌≤◌, bit_xor, sym, refl, ap, ◌∙◌, ap₂, le_trans, le_refl, not-suc-le-zero, mod-lt, mul_assoc, suc-add, one-mul, pow-suc, mul-zero, div-add-mod', zero-mul, mul-one, arith, lit<, pow_pos, pow_mono, pow-add}
 use Rattle.std.proofs.Math.Arith.{bin_ind, half_le, lt-one}
 use Rattle.std.proofs.Math.Decide.{le_ind}
 use Rattle.std.proofs.lemmas.Nat.{xor_comm, xor_lt, xor_shr}

@@ -1,5 +1,5 @@
 -- The product of the field by words: three products for four, and the division by x^64.
-use Rattle.std.proofs.Common.{◌≡◌, refl, sym, ap, ap₂, ◌∙◌, ℕ, ◌+◌, ◌-◌, ◌*◌, ◌/◌, ◌%◌, ◌^◌, ◌≤◌, ◌<◌, mod-lt, mul_assoc, arith, bit_and, bit_xor, lit<, lit≤, shl_exact}
+use Rattle.std.proofs.Common.{◌≡◌, ℕ, ◌+◌, ◌-◌, ◌*◌, ◌/◌, ◌%◌, ◌^◌, ◌<◌, ◌≤◌, bit_and, bit_xor, sym, refl, ap, ◌∙◌, ap₂, mod-lt, mul_assoc, arith, lit<, lit≤, shl_exact}
 use Rattle.std.proofs.lemmas.Nat.{and_mask, shr_split}
 use Rattle.std.specs.Int.Bits.{xor_assoc, xor_shifted}
 use Rattle.units.specs.Sums.{◌⊕◌}
@@ -39,15 +39,7 @@ divided_by : (v : ℕ) → remainder ((v / 2 ^ 64 ⊕ product (v % 2 ^ 64) inver
 divided_by v =
     let low = v % 2 ^ 64 in
     let high = v / 2 ^ 64 in
-    ap remainder (shl-xor high (product low inverse64) 64)
-    ∙ remainder-xor (high * 2 ^ 64) (product low inverse64 * 2 ^ 64)
-    ∙ ap (bit_xor (remainder (high * 2 ^ 64)))
-    (ap remainder (sym (product-shl_r low inverse64 64))
-    ∙ sym (remainder-product_r low (inverse64 * 2 ^ 64))
-    ∙ ap (λ (x : ℕ). remainder (product low x)) inverse64_is
-    ∙ ap remainder (product_one_r low))
-    ∙ sym (remainder-xor (high * 2 ^ 64) low)
-    ∙ ap remainder (halves v)
+    rw (shl-xor high (product low inverse64) 64, remainder-xor, ← product-shl_r low inverse64 64, ← remainder-product_r low (inverse64 * 2 ^ 64), inverse64_is, product_one_r, ← remainder-xor, halves)
 
 pub divided_is : (v : ℕ) → let w = bit_and v (2 ^ 64 - 1) in remainder ((v / 2 ^ 64 ⊕ w * 2 ^ 64 % 2 ^ 128 ⊕ w * 2 ^ 63 % 2 ^ 128 ⊕ w * 2 ^ 62 % 2 ^ 128 ⊕ w * 2 ^ 57 % 2 ^ 128) * 2 ^ 64) ≡ remainder v
 divided_is v =
@@ -76,15 +68,8 @@ shared low middle high =
     let up = middle / 2 ^ 64 in
     let down = middle % 2 ^ 64 in
     let cut : middle * 2 ^ 64 % 2 ^ 128 ≡ down * 2 ^ 64 = omega arith in
-    let both : up * 2 ^ 128 ⊕ down * 2 ^ 64 ≡ middle * 2 ^ 64 =
-    ap (λ (x : ℕ). x ⊕ down * 2 ^ 64) (sym (up_twice up)) ∙ sym (shl-xor (up * 2 ^ 64) down 64) ∙ ap (λ (x : ℕ). x * 2 ^ 64) (halves middle)
-    in
-    ap₂ (λ (x y : ℕ). x ⊕ (low ⊕ y)) (shl-xor high up 128) cut
-    ∙ regroup (high * 2 ^ 128) (up * 2 ^ 128) low (down * 2 ^ 64)
-    ∙ ap (λ (x : ℕ). high * 2 ^ 128 ⊕ x ⊕ low) both
-  where
-    regroup : (p q r s : ℕ) → (p ⊕ q) ⊕ (r ⊕ s) ≡ p ⊕ (q ⊕ s) ⊕ r
-    regroup p q r s = simp terms
+    let both : up * 2 ^ 128 ⊕ down * 2 ^ 64 ≡ middle * 2 ^ 64 = rw (← up_twice up, ← shl-xor (up * 2 ^ 64) down 64, halves) in
+    rw (shl-xor high up 128, cut, ← both) (simp terms)
 
 -- what the code makes of three products of words is the product
 pub three_products : (a b low high cross : ℕ) → low ≡ product (a % 2 ^ 64) (b % 2 ^ 64) → high ≡ product (a / 2 ^ 64) (b / 2 ^ 64) → cross ≡ product (a % 2 ^ 64 ⊕ a / 2 ^ 64) (b % 2 ^ 64 ⊕ b / 2 ^ 64) → (high ⊕ (cross ⊕ low ⊕ high) / 2 ^ 64) * 2 ^ 128 ⊕ (low ⊕ (cross ⊕ low ⊕ high) * 2 ^ 64 % 2 ^ 128) ≡ product a b
@@ -100,9 +85,4 @@ pdot_halves a b top bottom once twice small e e1 e2 =
     let down : remainder (twice * 2 ^ 128) ≡ remainder bottom =
     ap remainder (sym (up_twice twice)) ∙ remainder-shl (twice * 2 ^ 64) once 64 e2 ∙ e1
     in
-    pdot_only a b (top ⊕ twice) small
-    (ap remainder (shl-xor top twice 128)
-    ∙ remainder-xor (top * 2 ^ 128) (twice * 2 ^ 128)
-    ∙ ap (bit_xor (remainder (top * 2 ^ 128))) down
-    ∙ sym (remainder-xor (top * 2 ^ 128) bottom)
-    ∙ ap remainder e)
+    pdot_only a b (top ⊕ twice) small (rw (shl-xor top twice 128, remainder-xor, down, ← remainder-xor) (ap remainder e))

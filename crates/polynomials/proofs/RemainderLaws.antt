@@ -1,5 +1,5 @@
 -- The remainder by the modulus.
-use Rattle.std.proofs.Common.{◌≡◌, refl, sym, ap, ap₂, ◌∙◌, ℕ, zero, suc, ◌+◌, ◌*◌, ◌/◌, ◌%◌, ◌^◌, ◌<◌, add-zero, div-add-mod', div-lt_iff_lt-mul, mod-lt, mul_assoc, mul-one, one-mul, pow-suc, zero-mul, arith, bit_xor, lit<}
+use Rattle.std.proofs.Common.{◌≡◌, ℕ, zero, suc, ◌+◌, ◌*◌, ◌/◌, ◌%◌, ◌^◌, ◌<◌, bit_xor, sym, refl, ap, ◌∙◌, ap₂, add-zero, mod-lt, mul_assoc, div-lt_iff_lt-mul, one-mul, pow-suc, div-add-mod', zero-mul, mul-one, arith, lit<}
 use Rattle.std.proofs.Math.Arith.{bin_ind}
 use Rattle.std.proofs.Math.Nat.{div-eq_of_lt}
 use Rattle.std.proofs.lemmas.Nat.{xor_block, xor_mod, xor_shr}

@@ -1,5 +1,5 @@
 -- The product of two words, by products of their coefficients at every fifth place.
-use Rattle.std.proofs.Common.{◌≡◌, sym, ap, ap₂, ◌∙◌, ℕ, zero, suc, ◌+◌, ◌*◌, ◌/◌, ◌%◌, ◌^◌, ◌<◌, add-zero, lt_of_le_of_lt, mod-eq_of_lt, mod-lt, add-one, arith, bit_and, bit_xor, lit<, pow_pos}
+use Rattle.std.proofs.Common.{◌≡◌, ℕ, zero, suc, ◌+◌, ◌*◌, ◌/◌, ◌%◌, ◌^◌, ◌<◌, bit_and, sym, ◌∙◌, ap₂, lt_of_le_of_lt, add-zero, mod-lt, mod-eq_of_lt, add-one, arith, lit<, pow_pos}
 use Rattle.std.proofs.lemmas.Nat.Bits.{bit_at_and, bit_at_xor, same_from_bits}
 use Rattle.std.proofs.lemmas.Nat.{and_block, and_le_l, and_mask, shr_split}
 use Rattle.std.specs.Int.Bits.{and_zero_r}
@@ -46,11 +46,6 @@ sparse_product x y =
 pub place_more : (x y j sum p : ℕ) → x < 2 ^ 64 → y < 2 ^ 64 → sum ≡ product x (bit_and y (covered j)) → p ≡ product x (bit_and (y / 2 ^ j) holes) → sum ⊕ p * 2 ^ j % 2 ^ 128 ≡ product x (bit_and y (covered (j + 1)))
 place_more x y j sum p hx hy es ep =
     let next = bit_and y (holes * 2 ^ j) in
-    let whole : p * 2 ^ j ≡ product x next =
-    ap (λ (i : ℕ). i * 2 ^ j) ep ∙ sym (product-shl_r x (bit_and (y / 2 ^ j) holes) j) ∙ ap (product x) (and-shl y holes j)
-    in
+    let whole : p * 2 ^ j ≡ product x next = rw (ep, ← product-shl_r, and-shl) in
     let fits : product x next < 2 ^ 128 = product_lt 64 64 x next hx (lt_of_le_of_lt (and_le_l y (holes * 2 ^ j)) hy) in
-    ap₂ bit_xor es (ap (λ (i : ℕ). i % 2 ^ 128) whole ∙ mod-eq_of_lt fits)
-    ∙ sym (product-xor_r x (bit_and y (covered j)) next)
-    ∙ ap (product x) (sym (and_xor y (covered j) (holes * 2 ^ j)))
-    ∙ ap (λ (i : ℕ). product x (bit_and y (covered i))) (sym (add-one j))
+    rw (es, whole, mod-eq_of_lt fits, add-one, and_xor, product-xor_r)

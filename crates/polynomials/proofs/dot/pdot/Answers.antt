@@ -1,7 +1,7 @@
-use Rattle.std.proofs.Common.{◌≡◌, sym, subst, ◌*◌, ◌/◌, ◌%◌, ◌^◌, ◌<◌, arith}
+use Rattle.std.proofs.Common.{◌≡◌, ◌*◌, ◌/◌, ◌%◌, ◌^◌, ◌<◌, arith}
 use Rattle.std.proofs.lemmas.Nat.{xor_lt}
 use Rattle.units.specs.Sums.{◌⊕◌}
-use Rattle.polynomials.specs.Field.{Quotient, pdot}
+use Rattle.polynomials.specs.Field.{pdot}
 use Rattle.polynomials.proofs.RemainderLaws.{remainder_stands}
 use Rattle.polynomials.proofs.FieldLaws.{field_stands, pdot_quotient}
 use Rattle.polynomials.proofs.ReductionLaws.{pdot_halves, three_products}
@@ -17,14 +17,13 @@ returns c =
     let middle = cross ⊕ low ⊕ high in
     let top = high ⊕ middle / 2 ^ 64 in
     let last = c.divided-2.result in
-    let m : middle < 2 ^ 128 = xor_lt 128 (cross ⊕ low) high (xor_lt 128 cross low c.product.type_inv c.product-low.type_inv) c.product-high.type_inv in
-    let small : top ⊕ last < 2 ^ 128 = xor_lt 128 top last (xor_lt 128 high (middle / 2 ^ 64) c.product-high.type_inv (omega arith)) c.divided-2.type_inv in
+    let small : top ⊕ last < 2 ^ 128 = grind (arith, xor_lt 128) in
     let value : top ⊕ last ≡ pdot a b =
     pdot_halves a b top (low ⊕ middle * 2 ^ 64 % 2 ^ 128) c.divided.result last small (three_products a b low high cross (cc) (cc) (cc)) c.divided.ensures c.divided-2.ensures
     in
     record {
       value = value;
-      quotient = subst (Quotient a b) (sym value) (pdot_quotient a b);
+      quotient = rw value (pdot_quotient a b);
       remainder = remainder_stands;
       stands = field_stands;
     }

@@ -1,4 +1,4 @@
-use Rattle.std.proofs.Common.{ap, ◌∙◌, bit_and}
+use Rattle.std.proofs.Common.{bit_and, ap, ◌∙◌}
 use Rattle.std.proofs.lemmas.Nat.{and_assoc}
 use Rattle.polynomials.specs.Polynomials.{product}
 use Rattle.polynomials.specs.Words.{holes}
