@@ -109,7 +109,8 @@ remainder_multiple q =
 pub remainder-congruent : (a : ℕ) → Congruent a (remainder a)
 unfolding lowered
 remainder-congruent =
-    bin_ind (λ (n : ℕ). Congruent n (remainder n)) (0, sym (ap₂ bit_xor (product-zero_l modulus) remainder-zero))
+    bin_ind (λ (n : ℕ). Congruent n (remainder n))
+    (0, rw (product-zero_l, remainder-zero))
     (λ n ih. (ih.0 * 2 ⊕ top n, again n ih.0 ih.1))
   where
     down : ℕ → ℕ

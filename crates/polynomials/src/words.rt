@@ -49,5 +49,5 @@ fn over_places<F: Fn(u64, u64) -> u128>(x: u64, y: u64, part: F) -> u128
 fn sparse(x: u64, y: u64) -> u128
     ensures { result ≡ product (bit_and x holes) (bit_and y holes) }
 {
-    ((x & HOLES) as u128 * (y & HOLES) as u128) & WIDE_HOLES
+    (u128::from(x & HOLES) * u128::from(y & HOLES)) & WIDE_HOLES
 }
