@@ -6,14 +6,17 @@ use Rattle.polynomials.specs.Field.{FieldStands, Quotient, inverse, one, pdot}
 use Rattle.polynomials.proofs.ProductLaws.{product_assoc, product_comm, product_one_r, product-pow, product-shl_l, product-xor_l}
 use Rattle.polynomials.proofs.RemainderLaws.{congruent-same, remainder_lt, remainder-product_l, remainder-product_r, remainder_small, remainder-xor, same-congruent}
 
+-- a factor and its inverse fall out
+cancelled : (a b c : ℕ) → remainder (product b c) ≡ 1 → remainder (product (product a b) c) ≡ remainder a
+cancelled a b c e = rw (product_assoc, ← remainder-product_r a (product b c), e, product_one_r)
+
 inverse_is : remainder (product inverse (2 ^ 128)) ≡ 1
 unfolding remainder product digitwise lowered
 inverse_is = refl
 
 -- times x^128 and times x^-128 is times 1
 there_and_back : (a : ℕ) → remainder (product (product a inverse) (2 ^ 128)) ≡ remainder a
-there_and_back a =
-    rw (product_assoc, ← remainder-product_r a (product inverse (2 ^ 128)), inverse_is, product_one_r)
+there_and_back a = cancelled a inverse (2 ^ 128) inverse_is
 
 pub pdot_lt : (a b : ℕ) → pdot a b < 2 ^ 128
 unfolding pdot
@@ -44,8 +47,7 @@ pdot_quotient a b =
 
 pub pdot-xor_l : (a b c : ℕ) → pdot (a ⊕ b) c ≡ pdot a c ⊕ pdot b c
 unfolding pdot
-pdot-xor_l a b c =
-    simp (product-xor_l, remainder-xor)
+pdot-xor_l a b c = simp (product-xor_l, remainder-xor)
 
 pub pdot_comm : (a b : ℕ) → pdot a b ≡ pdot b a
 unfolding pdot
@@ -75,8 +77,7 @@ one_is = refl
 
 pub pdot_one : (a : ℕ) → a < 2 ^ 128 → pdot a one ≡ a
 unfolding pdot
-pdot_one a h =
-    rw (product_assoc, ← remainder-product_r a (product one inverse), one_is, product_one_r) (remainder_small a h)
+pdot_one a h = cancelled a one inverse one_is ∙ remainder_small a h
 
 pub field_stands : FieldStands
 field_stands =

@@ -51,7 +51,7 @@ product_one_l b = rw (product_step 1 b, one-mul, product-zero_l, xor_zero_r)
 pub product_one_r : (a : ℕ) → product a 1 ≡ a
 product_one_r =
     bin_ind (λ (n : ℕ). product n 1 ≡ n) (product-zero_l 1)
-    (λ n ih. product_step n 1 ∙ ap₂ (λ (x y : ℕ). x ⊕ y * 2) (mul-one (n % 2)) ih ∙ xor_comm (n % 2) (n / 2 * 2) ∙ parts n)
+    (λ n ih. rw (product_step n 1, mul-one, ih, xor_comm) (parts n))
 
 -- ---- sums
 

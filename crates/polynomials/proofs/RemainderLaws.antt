@@ -92,8 +92,7 @@ remainder-product_r a b =
     opened n c = rw (product_step n c, remainder-xor, remainder_bit, remainder_dbl)
 
 pub remainder-product_l : (a b : ℕ) → remainder (product (remainder a) b) ≡ remainder (product a b)
-remainder-product_l a b =
-    rw (product_comm (remainder a) b, remainder-product_r, product_comm b a)
+remainder-product_l a b = rw (product_comm (remainder a) b, remainder-product_r, product_comm b a)
 
 -- ---- multiples of the modulus
 
@@ -102,8 +101,7 @@ unfolding remainder digitwise lowered
 remainder-modulus = refl
 
 remainder_multiple : (q : ℕ) → remainder (product q modulus) ≡ 0
-remainder_multiple q =
-    sym (remainder-product_r q modulus) ∙ rw (remainder-modulus, product-zero_r, remainder-zero)
+remainder_multiple q = sym (remainder-product_r q modulus) ∙ rw (remainder-modulus, product-zero_r, remainder-zero)
 
 -- what is taken away from a polynomial is a multiple of the modulus
 pub remainder-congruent : (a : ℕ) → Congruent a (remainder a)
@@ -135,8 +133,7 @@ remainder-congruent =
 
 -- congruent polynomials have one remainder, and polynomials of one remainder are congruent
 pub congruent-same : (a b : ℕ) → Congruent a b → remainder a ≡ remainder b
-congruent-same a b h =
-    ap remainder h.1 ∙ rw (remainder-xor, remainder_multiple)
+congruent-same a b h = ap remainder h.1 ∙ rw (remainder-xor, remainder_multiple)
 
 pub same-congruent : (a b : ℕ) → remainder a ≡ remainder b → Congruent a b
 same-congruent a b e =
