@@ -1,10 +1,12 @@
 //! Bytes as hexadecimal text: two characters to a byte, the high digit first.
 #![tactic(auto)]
 
-ghost use Rattle.std.specs.Prelude.{◌≡◌, Some, None, Ok, Err};
+ghost use Rattle.std.specs.Prelude.{◌≡◌, ◌↔◌, Some, None, is_some, IsSome, IfOk, IsErrOf, codes};
 ghost use Rattle.hexadecimal.specs.Hex.{byte, decoded, digit};
+ghost use Rattle.hexadecimal.specs.declared.Fault.TheVariants.{Text, Memory};
 
-use std::alloc::Global;
+use std::alloc::{AllocFailed, Global};
+use std::error::Error;
 use std::fmt;
 
 /// Why a text gives no bytes.
@@ -16,16 +18,33 @@ pub enum Fault {
     Memory,
 }
 
+impl fmt::Display for Fault {
+    ghost output = { λ fault. elim fault [ Text ↦ Some (codes "not hexadecimal text") | Memory ↦ Some (codes "out of memory") ] };
+
+    fn fmt<W: fmt::Write>(&self, f: &mut fmt::Formatter<W>) -> fmt::Result {
+        match self {
+            Fault::Text => write!(f, "not hexadecimal text"),
+            Fault::Memory => write!(f, "out of memory"),
+        }
+    }
+}
+
+impl Error for Fault {}
+
+impl<T: Drop> From<AllocFailed<T>> for Fault {
+    ghost from_gives = { λ _ fault. fault ≡ Memory };
+
+    fn from(_failed: AllocFailed<T>) -> Fault {
+        Fault::Memory
+    }
+}
+
 /// The value of a hexadecimal digit.
 fn digit_value(character: u8) -> Option<u8>
     ensures { result ≡ digit character }
 {
-    match character {
-        b'0'..=b'9' => Some(character - b'0'),
-        b'a'..=b'f' => Some(character - b'a' + 10),
-        b'A'..=b'F' => Some(character - b'A' + 10),
-        _ => None,
-    }
+    let digit = char::from(character).to_digit(16)?;
+    u8::try_from(digit).ok()
 }
 
 /// The byte that two digits stand for.
@@ -37,22 +56,31 @@ fn byte_value(high: u8, low: u8) -> Option<u8>
     Some(high * 16 + low)
 }
 
-/// The bytes that a text stands for.
-pub fn decode(heap: Global, text: &str) -> Result<Vec<u8>, Fault>
-    ensures { elim result [ Ok v ↦ decoded text.now ≡ Some v.items | Err e ↦ (e ≡ Fault.Text → decoded text.now ≡ None) ] }
+/// Whether a text stands for bytes.
+fn is_hexadecimal(text: &str) -> bool
+    ensures { result ≡ is_some (decoded text.now) }
 {
     let (pairs, rest) = text.as_bytes().as_chunks::<2>();
-    if !rest.is_empty() {
+    rest.is_empty()
+        && pairs
+            .iter()
+            .all(|[high, low]| byte_value(*high, *low).is_some())
+}
+
+/// The bytes that a text stands for. Want of memory is told only of a text that stands for some.
+pub fn decode(heap: Global, text: &str) -> Result<Vec<u8>, Fault>
+    ensures bytes { IfOk result (λ bytes. decoded text.now ≡ Some bytes.items) }
+    ensures text { IsErrOf result Text ↔ (decoded text.now ≡ None) }
+    ensures memory { IsErrOf result Memory → IsSome (decoded text.now) }
+{
+    if !is_hexadecimal(text) {
         return Err(Fault::Text);
     }
+    let (pairs, _) = text.as_bytes().as_chunks::<2>();
     let mut bytes = Vec::new(heap);
     for [high, low] in pairs {
-        let Some(byte) = byte_value(*high, *low) else {
-            return Err(Fault::Text);
-        };
-        if bytes.push(byte).is_err() {
-            return Err(Fault::Memory);
-        }
+        let byte = byte_value(*high, *low).ok_or(Fault::Text)?;
+        bytes.push(byte)?;
     }
     Ok(bytes)
 }
