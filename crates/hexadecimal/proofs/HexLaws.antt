@@ -1,9 +1,11 @@
--- Decoding pair by pair.
+-- Decoding pair by pair, and reading back what is written of bytes.
 use Rattle.std.proofs.Common.{◌≡◌, ℕ, zero, suc, ◌+◌, ◌*◌, ◌/◌, ◌%◌, ◌<◌, ◌≤◌, Bool, true, false, ◌&&◌, is_some, List, [], ◌∷◌, ◌++◌, length, get_or, drop, Some, None, Option, sym, refl, ap, ◌∙◌, append_assoc, append-nil, arith}
 use Rattle.std.proofs.lemmas.List.{at_drop_more, at_drop_all}
-use Rattle.std.specs.List.{list_all}
+use Rattle.std.proofs.lemmas.Bool.Decides.{nat_tests}
+use Rattle.std.specs.Char.{digit_char}
+use Rattle.std.specs.List.{All, list_all}
 use Rattle.std.specs.Simd.{first_chunks}
-use Rattle.hexadecimal.specs.Hex.{before, byte, decoded}
+use Rattle.hexadecimal.specs.Hex.{before, byte, decoded, digit, written}
 
 -- the byte that a pair of digits stands for
 abbrev pub pair_byte : List ℕ → Option ℕ
@@ -79,7 +81,26 @@ after_none (Some more) = refl
 after_none None = refl
 
 -- where no pair is decoded yet
-pub pairs_start : (text : List ℕ) → is_some (decoded text) ≡ true → after [] (paired (first_chunks 2 (length text / 2) text)) ≡ decoded text
-pairs_start text some =
+pub pairs_start : (text : List ℕ) (pairs : List (List ℕ)) → pairs ≡ first_chunks 2 (length text / 2) text → is_some (decoded text) ≡ true → after [] (paired pairs) ≡ decoded text
+pairs_start text pairs cut some =
     let even : length text % 2 ≡ 0 = grind (arith, decoded_odd text) in
-    after_none (paired (first_chunks 2 (length text / 2) text)) ∙ pairs-decoded text even
+    after_none (paired pairs) ∙ ap paired cut ∙ pairs-decoded text even
+
+digit_read : (d : ℕ) → d < 16 → digit (digit_char d) ≡ Some d
+digit_read d h = grind (arith, nat_tests)
+
+byte_read : (b : ℕ) → b < 256 → byte (digit_char (b / 16)) (digit_char (b % 16)) ≡ Some b
+byte_read b h =
+    let whole : b / 16 * 16 + b % 16 ≡ b = omega arith in
+    rw (digit_read (b / 16) (omega arith), digit_read (b % 16) (omega arith)) (ap Some whole)
+
+-- what is written of bytes stands for them
+pub decoded_written : (bytes : List ℕ) → All (λ b. b < 256) bytes → decoded (written bytes) ≡ Some bytes
+decoded_written [] h = refl
+decoded_written (b ∷ bytes) h =
+    let first = byte_read b (h 0 0 (omega arith)) in
+    let rest = decoded_written bytes (λ k d m. h (suc k) d (omega arith)) in
+    rw (first, rest) refl
+
+-- what the proof of `decode` rests on
+pub ruleset decoding = (pairs_start, pairs_more, pairs_stop, pairs_end, none_from_test, decoded_written)

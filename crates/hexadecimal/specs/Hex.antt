@@ -1,5 +1,6 @@
 -- Bytes as hexadecimal text: two characters to a byte, the high digit first.
-use Rattle.std.specs.Prelude.{ℕ, ◌+◌, ◌-◌, ◌*◌, cond, ◌&&◌, List, [], ◌∷◌, Some, None, Option, nat_le}
+use Rattle.std.specs.Prelude.{ℕ, ◌+◌, ◌-◌, ◌*◌, ◌/◌, ◌%◌, cond, ◌&&◌, List, [], ◌∷◌, Some, None, Option, nat_le, codes, flat_map}
+use Rattle.std.specs.Char.{digit_char}
 
 -- the value of a digit, by its code: 0 to 9, a to f, A to F
 abbrev pub digit : ℕ → Option ℕ
@@ -27,3 +28,16 @@ abbrev pub decoded : List ℕ → Option (List ℕ)
 decoded [] = Some []
 decoded (high ∷ []) = None
 decoded (high ∷ low ∷ text) = before (byte high low) (decoded text)
+
+-- a byte as two digits in small letters, the high one first
+abbrev pub two_digits : ℕ → List ℕ
+two_digits b = digit_char (b / 16) ∷ digit_char (b % 16) ∷ []
+
+-- bytes as pairs of digits
+abbrev pub written : List ℕ → List ℕ
+written bytes = flat_map two_digits bytes
+
+-- bytes as `Hex` shows them, `-` for none
+abbrev pub shown : List ℕ → List ℕ
+shown [] = codes "-"
+shown (b ∷ bytes) = written (b ∷ bytes)

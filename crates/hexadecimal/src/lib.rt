@@ -1,8 +1,8 @@
 //! Bytes as hexadecimal text: two characters to a byte, the high digit first.
 #![tactic(auto)]
 
-ghost use Rattle.std.specs.Prelude.{◌≡◌, ◌↔◌, Some, None, is_some, IsSome, IfOk, IsErrOf, codes};
-ghost use Rattle.hexadecimal.specs.Hex.{byte, decoded, digit};
+ghost use Rattle.std.specs.Prelude.{◌≡◌, ◌<◌, ◌↔◌, ℕ, List, All, Some, None, is_some, IsSome, IfOk, MatchResult, IsErrOf, codes};
+ghost use Rattle.hexadecimal.specs.Hex.{byte, decoded, digit, shown, written};
 ghost use Rattle.hexadecimal.specs.declared.Fault.TheVariants.{Text, Memory};
 
 use std::alloc::{AllocFailed, Global};
@@ -19,7 +19,10 @@ pub enum Fault {
 }
 
 impl fmt::Display for Fault {
-    ghost output = { λ fault. elim fault [ Text ↦ Some (codes "not hexadecimal text") | Memory ↦ Some (codes "out of memory") ] };
+    ghost output = { λ fault. elim fault [
+      | Text ↦ Some (codes "not hexadecimal text")
+      | Memory ↦ Some (codes "out of memory")
+    ] };
 
     fn fmt<W: fmt::Write>(&self, f: &mut fmt::Formatter<W>) -> fmt::Result {
         match self {
@@ -68,10 +71,14 @@ fn is_hexadecimal(text: &str) -> bool
 }
 
 /// The bytes that a text stands for. Want of memory is told only of a text that stands for some.
+#[tactic(auto, using(crate::proofs::HexLaws::decoding))]
 pub fn decode(heap: Global, text: &str) -> Result<Vec<u8>, Fault>
     ensures bytes { IfOk result (λ bytes. decoded text.now ≡ Some bytes.items) }
     ensures text { IsErrOf result Text ↔ (decoded text.now ≡ None) }
     ensures memory { IsErrOf result Memory → IsSome (decoded text.now) }
+    // Pairs of digits as `Hex` writes them give back the bytes, unless memory fails.
+    ensures round_trip { (bytes : List ℕ) → All (λ b. b < 256) bytes → text.now ≡ written bytes
+        → MatchResult result (λ read. read.items ≡ bytes) (λ fault. fault ≡ Memory) }
 {
     if !is_hexadecimal(text) {
         return Err(Fault::Text);
@@ -90,11 +97,13 @@ pub fn decode(heap: Global, text: &str) -> Result<Vec<u8>, Fault>
 pub struct Hex<'a>(pub &'a [u8]);
 
 impl fmt::Display for Hex<'_> {
+    ghost output = { λ hex. Some (shown hex.0.now) };
+
     fn fmt<W: fmt::Write>(&self, f: &mut fmt::Formatter<W>) -> fmt::Result {
         if self.0.is_empty() {
             return f.write_str("-");
         }
-        for byte in self.0 {
+        for &byte in self.0 {
             write!(f, "{byte:02x}")?;
         }
         Ok(())
