@@ -1,11 +1,11 @@
 -- Where the records of a recording end, and what the verdict says.
 use Rattle.std.proofs.Common.{◌≡◌, ℕ, zero, suc, ◌+◌, ◌≤◌, true, List, [], ◌∷◌, ◌++◌, length, drop, is_ok, Some, None, Ok, Err, Decides, Option, Result, sym, refl, ap, ◌∙◌, append_assoc, append-nil, arith, length-append}
-use lib.Seq.{drop-append-add}
+use Rattle.std.proofs.Math.Seq.{drop-append-add}
 use Rattle.std.proofs.lemmas.List.{drop_all}
 use Rattle.std.proofs.lemmas.Bool.Decides.{Decides-at, nat_tests}
 use Rattle.std.specs.List.{flat_map, AllByRecursion}
 use Rattle.units.specs.Strings.{Octets}
-use Rattle.units.proofs.StringLaws.{Octets-drop, Octets-append_rest}
+use Rattle.units.proofs.StringLaws.{Octets-append_rest}
 use Rattle.units.specs.declared.refusals.Refusal.{Refusal}
 use Rattle.recording.specs.Checking.{Sound, checked, end}
 use Rattle.recording.specs.Reading.{Moved, records, step, stepped, up_to}
@@ -13,10 +13,10 @@ use Rattle.recording.specs.Records.{Entry, WellFormed, Begins, first, written}
 use Rattle.recording.proofs.ReadingLaws.{Found, records_none, records_some}
 use Rattle.recording.proofs.RecordLaws.{first_there}
 
-pub end_some : (xs : List ℕ) (e : Entry) (rest : List ℕ) → Octets xs → Begins e rest xs → end xs ≡ length (written e) + end rest
+pub end_some : (xs : List ℕ) (e : Entry) (rest : List ℕ) → Begins e rest xs → end xs ≡ length (written e) + end rest
 unfolding end
-end_some xs e rest o there =
-    ap (λ (l : List Entry). length (flat_map written l)) (records_some xs e rest o there) ∙ length-append (written e) (flat_map written (records rest))
+end_some xs e rest there =
+    ap (λ (l : List Entry). length (flat_map written l)) (records_some xs e rest there) ∙ length-append (written e) (flat_map written (records rest))
 
 pub end_none : (xs : List ℕ) → first xs ≡ None → end xs ≡ 0
 unfolding end
@@ -29,10 +29,10 @@ pub record Reached (xs : List ℕ) (at : ℕ) : Type 0 where
   pub within : at ≤ length xs
   pub left : end xs ≡ at + end (drop at xs)
 
-pub reached_more : (xs : List ℕ) (from to : ℕ) (e : Entry) → Octets xs → Reached xs from → Moved xs from to e → Reached xs to
-reached_more xs from to e o r m =
+pub reached_more : (xs : List ℕ) (from to : ℕ) (e : Entry) → Reached xs from → Moved xs from to e → Reached xs to
+reached_more xs from to e r m =
     let next : end (drop from xs) ≡ length (written e) + end (drop to xs) =
-    end_some (drop from xs) e (drop to xs) (Octets-drop xs from o) record { formed = m.formed; parts = m.there }
+    end_some (drop from xs) e (drop to xs) record { formed = m.formed; parts = m.there }
     in
     record { within = m.within; left = r.left ∙ omega (arith, m.by) }
 
@@ -88,12 +88,12 @@ formed (suc n) xs o = go (formed n) (first xs) refl
         (there.formed, again p.1 (Octets-append_rest xs (written p.0) p.1 o there.parts))
     go again None e = tt
 
-run_records : (xs : List ℕ) (es : List Entry) → Octets xs → AllByRecursion WellFormed es → xs ≡ flat_map written es → records xs ≡ es
-run_records xs [] o w e = ap records e ∙ records_none [] refl
-run_records xs (a ∷ es) o w e =
+run_records : (xs : List ℕ) (es : List Entry) → AllByRecursion WellFormed es → xs ≡ flat_map written es → records xs ≡ es
+run_records xs [] w e = ap records e ∙ records_none [] refl
+run_records xs (a ∷ es) w e =
     let there : Begins a (flat_map written es) xs = record { formed = w.0; parts = e } in
-    records_some xs a (flat_map written es) o there
-    ∙ ap (λ (l : List Entry). a ∷ l) (run_records (flat_map written es) es (Octets-append_rest xs (written a) (flat_map written es) o e) w.1 refl)
+    records_some xs a (flat_map written es) there
+    ∙ ap (λ (l : List Entry). a ∷ l) (run_records (flat_map written es) es w.1 refl)
 
 -- an accepted recording is short enough, and its records end where it ends
 accepted : (xs : List ℕ) → is_ok (checked xs) ≡ true → (length xs ≤ 65536) × (end xs ≡ length xs)
@@ -122,7 +122,7 @@ sound xs o = (
         run = sym (whole xs o h);
       },
   λ s.
-      let found = run_records xs s.entries o s.formed s.run in
+      let found = run_records xs s.entries s.formed s.run in
       accepts xs s.short (ap (λ (l : List Entry). length (flat_map written l)) found ∙ ap length (sym s.run)),
 )
 

@@ -2,47 +2,35 @@
 use Rattle.std.proofs.Common.{◌≡◌, ℕ, zero, suc, ◌+◌, ◌-◌, ◌<◌, ◌≤◌, List, [], ◌∷◌, ◌++◌, length, drop, Some, None, Option, sym, refl, ap, ◌∙◌, arith, length-append, length-drop, drop-drop, drop_at}
 use Rattle.std.proofs.lemmas.List.{nil_from_length}
 use Rattle.std.proofs.lemmas.Bool.{le-ltb, ne_eqb}
-use Rattle.units.specs.Strings.{Octets}
-use Rattle.units.proofs.StringLaws.{Octets-drop, Octets-append_rest}
 use Rattle.recording.specs.Reading.{Moved, records, step_at, stepped, up_to}
-use Rattle.recording.specs.Records.{Entry, keystream, remark, Begins, first, written}
-use Rattle.recording.proofs.RecordLaws.{first_there, there_first}
+use Rattle.recording.specs.Records.{Entry, Begins, first, written}
+use Rattle.recording.proofs.RecordLaws.{first_shorter, there_first}
 
 abbrev pub Found : Type 0
 Found = Option (Entry × List ℕ)
 
-written_some : (e : Entry) → 1 ≤ length (written e)
-written_some (keystream nonce blocks) = omega arith
-written_some (remark text) = omega arith
-
--- what is left after a record is shorter
-rest_shorter : (xs : List ℕ) (e : Entry) (rest : List ℕ) → Begins e rest xs → length rest < length xs
-rest_shorter xs e rest there = omega (arith, ap length there.parts, length-append (written e) rest, written_some e)
-
 -- any number of records that is large enough gives the same
-up_to_same : (n m : ℕ) (xs : List ℕ) → Octets xs → length xs ≤ n → length xs ≤ m → up_to n xs ≡ up_to m xs
-up_to_same zero zero xs o h k = refl
-up_to_same zero (suc m) xs o h k = let none = nil_from_length xs (omega arith) in rw none refl
-up_to_same (suc n) zero xs o h k = let none = nil_from_length xs (omega arith) in rw none refl
-up_to_same (suc n) (suc m) xs o h k = go (λ ys p less. up_to_same n m ys p (omega arith) (omega arith)) (first xs) refl
+up_to_same : (n m : ℕ) (xs : List ℕ) → length xs ≤ n → length xs ≤ m → up_to n xs ≡ up_to m xs
+up_to_same zero zero xs h k = refl
+up_to_same zero (suc m) xs h k = let none = nil_from_length xs (omega arith) in rw none refl
+up_to_same (suc n) zero xs h k = let none = nil_from_length xs (omega arith) in rw none refl
+up_to_same (suc n) (suc m) xs h k = go (λ ys less. up_to_same n m ys (omega arith) (omega arith)) (first xs) refl
   where
-    go : ((ys : List ℕ) → Octets ys → length ys < length xs → up_to n ys ≡ up_to m ys) → (r : Found) → first xs ≡ r
+    go : ((ys : List ℕ) → length ys < length xs → up_to n ys ≡ up_to m ys) → (r : Found) → first xs ≡ r
         → ◌≡◌ {A = List Entry} (elim r [ Some p ↦ p.0 ∷ up_to n p.1 | None ↦ [] ]) (elim r [ Some p ↦ p.0 ∷ up_to m p.1 | None ↦ [] ])
-    go again (Some p) e =
-        let there = first_there xs p.0 p.1 o e in
-        ap (λ (l : List Entry). p.0 ∷ l)
-        (again p.1 (Octets-append_rest xs (written p.0) p.1 o there.parts) (rest_shorter xs p.0 p.1 there))
+    go again (Some p) e = ap (λ (l : List Entry). p.0 ∷ l) (again p.1 (first_shorter xs p.0 p.1 e))
     go again None e = refl
 
-pub records_some : (xs : List ℕ) (e : Entry) (rest : List ℕ) → Octets xs → Begins e rest xs → records xs ≡ e ∷ records rest
+pub records_some : (xs : List ℕ) (e : Entry) (rest : List ℕ) → Begins e rest xs → records xs ≡ e ∷ records rest
 unfolding records
-records_some [] e rest o there = let less = rest_shorter [] e rest there in absurd (omega arith)
-records_some (x ∷ xs) e rest o there =
-    let found : first (x ∷ xs) ≡ Some (e, rest) = ap first there.parts ∙ there_first e rest there.formed in
-    let less = rest_shorter (x ∷ xs) e rest there in
-    ap (λ (r : Found). elim r [ Some p ↦ p.0 ∷ up_to (length xs) p.1 | None ↦ [] ]) found
-    ∙ ap (λ (l : List Entry). e ∷ l)
-    (up_to_same (length xs) (length rest) rest (Octets-append_rest (x ∷ xs) (written e) rest o there.parts) (omega arith) (omega arith))
+records_some xs e rest there = go xs (ap first there.parts ∙ there_first e rest there.formed)
+  where
+    go : (ys : List ℕ) → first ys ≡ Some (e, rest) → records ys ≡ e ∷ records rest
+    go [] found = let less = first_shorter [] e rest found in absurd (omega arith)
+    go (y ∷ ys) found =
+        let less = first_shorter (y ∷ ys) e rest found in
+        ap (λ (r : Found). elim r [ Some p ↦ p.0 ∷ up_to (length ys) p.1 | None ↦ [] ]) found
+        ∙ ap (λ (l : List Entry). e ∷ l) (up_to_same (length ys) (length rest) rest (omega arith) (omega arith))
 
 pub records_none : (xs : List ℕ) → first xs ≡ None → records xs ≡ []
 unfolding records
@@ -54,8 +42,8 @@ records_none (x ∷ xs) e = ap (λ (r : Found). elim r [ Some p ↦ p.0 ∷ up_t
 pub rest_within : (xs : List ℕ) (at : ℕ) (e : Entry) (rest : List ℕ) → Begins e rest (drop at xs) → length rest ≤ length xs
 rest_within xs at e rest there = omega (arith, length-drop at xs, ap length there.parts, length-append (written e) rest)
 
-pub moved : (xs : List ℕ) (at : ℕ) (e : Entry) (rest : List ℕ) → Octets xs → at ≤ length xs → Begins e rest (drop at xs) → Moved xs at (length xs - length rest) e
-moved xs at e rest o h there =
+pub moved : (xs : List ℕ) (at : ℕ) (e : Entry) (rest : List ℕ) → at ≤ length xs → Begins e rest (drop at xs) → Moved xs at (length xs - length rest) e
+moved xs at e rest h there =
     let size : length xs - at ≡ length (written e) + length rest = sym (length-drop at xs) ∙ ap length there.parts ∙ length-append (written e) rest in
     let by : length xs - length rest ≡ at + length (written e) = omega arith in
     let back : drop (length xs - length rest) xs ≡ rest =
@@ -69,7 +57,7 @@ moved xs at e rest o h there =
       there = there.parts ∙ ap (λ (l : List ℕ). written e ++ l) (sym back);
       by = by;
       within = omega arith;
-      next = records_some (drop at xs) e rest (Octets-drop xs at o) there ∙ ap (λ (l : List ℕ). e ∷ records l) (sym back);
+      next = records_some (drop at xs) e rest there ∙ ap (λ (l : List ℕ). e ∷ records l) (sym back);
     }
 
 -- a step that is not at the end goes by the record that stands there

@@ -1,7 +1,9 @@
 -- A record and the bytes that it is written as.
-use Rattle.std.proofs.Common.{◌≡◌, ℕ, zero, suc, ◌+◌, ◌*◌, ◌/◌, ◌≤◌, Bool, true, false, cond, ◌&&◌, leb, List, [], ◌∷◌, ◌++◌, length, get_or, take, drop, Some, None, Option, sym, refl, ap, ◌∙◌, subst, ap₂, ⊎_elim, append_assoc, arith, length-append, length-drop, take-append-drop, length-take-le, get_or-drop, get_or-take, take-take, drop-drop, take_at, take-add, drop_at}
+use Rattle.std.proofs.Common.{◌≡◌, ℕ, zero, suc, ◌+◌, ◌*◌, ◌/◌, ◌<◌, ◌≤◌, true, false, cond, ◌&&◌, leb, List, [], ◌∷◌, ◌++◌, length, get_or, take, drop, Some, None, Option, sym, refl, ap, ◌∙◌, subst, ap₂, ⊎_elim, append_assoc, arith, length-append, length-drop, take-append-drop, length-take-le, get_or-drop, get_or-take, take-take, drop-drop, take_at, take-add, drop_at}
 use Rattle.std.proofs.lemmas.List.{drop-take}
 use Rattle.std.proofs.lemmas.Bool.{and_parts, cases_Bool, cond-false, cond-true, le-leb, leb-true}
+use Rattle.std.proofs.lemmas.Bool.Decides.{nat_tests}
+use Rattle.std.proofs.lemmas.Option.{cond_some}
 use Rattle.std.specs.List.{flat_map, AllByRecursion}
 use Rattle.std.specs.Simd.{first_chunks}
 use Rattle.units.specs.Strings.{Octets, same, two, two_at}
@@ -90,14 +92,10 @@ AllByRecursion-first_chunks : (n : ℕ) (xs : List ℕ) → 16 * n ≤ length xs
 AllByRecursion-first_chunks zero xs h = tt
 AllByRecursion-first_chunks (suc n) xs h = (length-take-le 16 xs (omega arith), AllByRecursion-first_chunks n (drop 16 xs) (simp length-drop (omega arith)))
 
-found-cond : {A : Type 0} (b : Bool) (x y : A) → cond b (Some x) None ≡ Some y → (b ≡ true) × (x ≡ y)
-found-cond true x y e = (refl, cc)
-found-cond false x y e = let never : ◌≡◌ {A = ℕ} 0 1 = cc in absurd (omega arith)
-
 keystream_there : (xs : List ℕ) (e : Entry) (rest : List ℕ) → Octets xs → first_keystream xs ≡ Some (e, rest) → Begins e rest (keystream_mark ++ xs)
 keystream_there xs e rest o found =
     let n = two_at xs 12 in
-    let got = found-cond (leb 1 n && leb n 1024 && leb (14 + 16 * n) (length xs)) (keystream (take 12 xs) (first_chunks 16 n (drop 14 xs)), drop (14 + 16 * n) xs) (e, rest) found in
+    let got = cond_some (leb 1 n && leb n 1024 && leb (14 + 16 * n) (length xs)) (keystream (take 12 xs) (first_chunks 16 n (drop 14 xs)), drop (14 + 16 * n) xs) (e, rest) found in
     let tests = and_parts (leb 1 n && leb n 1024) (leb (14 + 16 * n) (length xs)) got.0 in
     let range = and_parts (leb 1 n) (leb n 1024) tests.0 in
     let some = leb-true 1 n range.0 in
@@ -125,9 +123,9 @@ keystream_there xs e rest o found =
     }
 
 remark_there : (xs : List ℕ) (e : Entry) (rest : List ℕ) → Octets xs → first_remark xs ≡ Some (e, rest) → Begins e rest (remark_mark ++ xs)
-remark_there [] e rest o found = let never : ◌≡◌ {A = ℕ} 0 1 = cc in absurd (omega arith)
+remark_there [] e rest o found = absurd cc
 remark_there (n ∷ xs) e rest o found =
-    let got = found-cond (leb (1 + n) (suc (length xs))) (remark (take n xs), drop (1 + n) (n ∷ xs)) (e, rest) found in
+    let got = cond_some (leb (1 + n) (suc (length xs))) (remark (take n xs), drop (1 + n) (n ∷ xs)) (e, rest) found in
     let long = leb-true (1 + n) (suc (length xs)) got.0 in
     let small = o 0 in
     let count : length (take n xs) ≡ n = length-take-le n xs (omega arith) in
@@ -153,8 +151,7 @@ first_there xs e rest o found =
     (λ (r : same (take 2 xs) remark_mark ≡ true). marked remark_mark (remark_there (drop 2 xs) e rest later (sym (cond-true _ (first_remark (drop 2 xs)) None r) ∙ other)) r)
     (λ (r : same (take 2 xs) remark_mark ≡ false).
     let none : None ≡ Some (e, rest) = sym (cond-false _ (first_remark (drop 2 xs)) None r) ∙ other in
-    let never : ◌≡◌ {A = ℕ} 0 1 = cc in
-    absurd (omega arith))
+    absurd cc)
     (cases_Bool (same (take 2 xs) remark_mark)))
     (cases_Bool (same (take 2 xs) keystream_mark))
   where
@@ -216,6 +213,15 @@ first_faithful xs o = told (first xs) refl
     told : (r : Option (Entry × List ℕ)) → first xs ≡ r → Faithful xs r
     told None e = λ entry rest there.
         let found : first xs ≡ Some (entry, rest) = ap first there.parts ∙ there_first entry rest there.formed in
-        let never : ◌≡◌ {A = ℕ} 0 1 = cc in
-        absurd (omega arith)
+        absurd cc
     told (Some p) e = first_there xs p.0 p.1 o e
+
+-- what comes after a record is shorter
+keystream_shorter : (xs : List ℕ) (e : Entry) (rest : List ℕ) → first_keystream xs ≡ Some (e, rest) → length rest < length xs
+keystream_shorter xs e rest found = grind (arith, nat_tests, length-drop {A = ℕ})
+
+remark_shorter : (xs : List ℕ) (e : Entry) (rest : List ℕ) → first_remark xs ≡ Some (e, rest) → length rest < length xs
+remark_shorter xs e rest found = grind (arith, nat_tests, length-drop {A = ℕ})
+
+pub first_shorter : (xs : List ℕ) (e : Entry) (rest : List ℕ) → first xs ≡ Some (e, rest) → length rest < length xs
+first_shorter xs e rest found = grind (arith, nat_tests, keystream_shorter, remark_shorter, length-drop {A = ℕ})

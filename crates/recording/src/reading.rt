@@ -1,10 +1,9 @@
 //! Reading a recording record by record. Nothing is copied, and at a fault the reading stays where it is.
 ghost use Rattle.std.specs.Prelude.{◌≡◌, ◌≤◌, length};
-ghost use Rattle.units.specs.Strings.{Octets};
 ghost use Rattle.recording.specs.Reading.{Lawful, answered, fault, step, stepped};
 
 use super::records::Record;
-use units::{Bytes, Layer, Reason, Refusal, octets};
+use units::{Bytes, Layer, Reason, Refusal};
 
 /// The most bytes that a recording has.
 pub const LONGEST: usize = 65_536;
@@ -15,7 +14,6 @@ pub struct Reader<'a> {
     bytes: &'a [u8],
     offset: usize,
     ghost within: { offset ≤ length bytes.now },
-    ghost octets: { Octets bytes.now },
 }
 
 impl<'a> Reader<'a> {
@@ -24,7 +22,6 @@ impl<'a> Reader<'a> {
         ensures bytes { result.bytes ≡ bytes.entry }
         ensures offset { result.offset ≡ 0 }
     {
-        octets(bytes);
         Reader { bytes, offset: 0 }
     }
 

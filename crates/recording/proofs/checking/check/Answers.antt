@@ -1,4 +1,4 @@
-use Rattle.std.proofs.Common.{◌≡◌, ℕ, List, Some, Ok, Err, Option, ap, ◌∙◌, subst, Bor}
+use Rattle.std.proofs.Common.{◌≡◌, ℕ, List, Some, Ok, Err, Option, ap, ◌∙◌, subst, Bor, arith}
 use Rattle.std.proofs.lemmas.Result.{err_from_is_err_and}
 use Rattle.std.specs.Option.{option_map}
 use Rattle.units.specs.Strings.{Octets}
@@ -17,7 +17,7 @@ returns-in_err-_record c =
     let inv = c.loop-record.invariant in
     let told = c.in_err-_record.ensures in
     let exit = err_from_is_err_and c.from_residual.result c.from_residual.ensures.1 in
-    let octets = subst Octets inv.0 reader.octets in
+    let octets : Octets xs = λ k. omega (arith, c.type_inv.bytes k) in
     let value : c.from_residual.result ≡ checked xs =
     exit.1
     ∙ ap (λ (why : Refusal). Err why) exit.2
@@ -33,12 +33,11 @@ loop-record-preserved c =
     let reader = c.loop-record.reader in
     let inv = c.loop-record.invariant in
     let told = c.in_ok-_record.ensures in
-    let octets = subst Octets inv.0 reader.octets in
     let to = c.next_record.new.self.offset in
     let e = entry c.in-Some._record in
     let found = subst (λ (o : Option Record). Lawful reader.bytes.now reader.offset (Ok (option_map entry o)) to) c.in-Some.is told.lawful in
     let moved = subst (λ (l : List ℕ). Lawful l reader.offset (Ok (Some e)) to) inv.0 found in
-    (ap (λ (r : Bor (List ℕ)). r.now) told.same ∙ inv.0, reached_more xs reader.offset to e octets inv.1 moved)
+    (ap (λ (r : Bor (List ℕ)). r.now) told.same ∙ inv.0, reached_more xs reader.offset to e inv.1 moved)
 
 pub returns : goal.returns
 returns c =
@@ -46,7 +45,7 @@ returns c =
     let reader = c.loop-record.reader in
     let inv = c.loop-record.invariant in
     let told = c.in_ok-_record.ensures in
-    let octets = subst Octets inv.0 reader.octets in
+    let octets : Octets xs = λ k. omega (arith, c.type_inv.bytes k) in
     let to = c.next_record.new.self.offset in
     let end = subst (λ (o : Option Record). Lawful reader.bytes.now reader.offset (Ok (option_map entry o)) to) c.in_default.is told.lawful in
     let value : Ok tt ≡ checked xs =

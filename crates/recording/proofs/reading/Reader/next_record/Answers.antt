@@ -36,5 +36,5 @@ returns c =
     record {
       step = ap (step_at (length xs) at) found ∙ sym (step_inside xs at (omega arith) (λ e. omega arith));
       same = refl;
-      lawful = moved xs at (entry c.in-Some.record) c.in-Some.rest.now c.args.self.now.octets (omega arith) (there (goal.at.returns c).In-Some);
+      lawful = moved xs at (entry c.in-Some.record) c.in-Some.rest.now (omega arith) (there (goal.at.returns c).In-Some);
     }
