@@ -1,8 +1,7 @@
 -- The records of a recording, one after the other, and what a step of the reading leaves.
-use Rattle.std.proofs.Common.{◌≡◌, ℕ, zero, suc, ◌+◌, ◌-◌, ◌<◌, ◌≤◌, List, [], ◌∷◌, ◌++◌, length, drop, Some, None, Option, sym, refl, ap, ◌∙◌, arith, length-append, length-drop, drop-drop, drop_at}
+use Rattle.std.proofs.Common.{◌≡◌, ℕ, zero, suc, ◌+◌, ◌-◌, ◌<◌, ◌≤◌, List, [], ◌∷◌, length, drop, Some, None, Option, refl, ap, ◌∙◌, arith, length-append, length-drop, drop-drop, drop_at}
 use Rattle.std.proofs.lemmas.List.{nil_from_length}
-use Rattle.std.proofs.lemmas.Bool.{le-ltb, ne_eqb}
-use Rattle.recording.specs.Reading.{Moved, records, step_at, stepped, up_to}
+use Rattle.recording.specs.Reading.{Moved, records, up_to}
 use Rattle.recording.specs.Records.{Entry, Begins, first, written}
 use Rattle.recording.proofs.RecordLaws.{first_shorter, there_first}
 
@@ -23,46 +22,28 @@ up_to_same (suc n) (suc m) xs h k = go (λ ys less. up_to_same n m ys (omega ari
 
 pub records_some : (xs : List ℕ) (e : Entry) (rest : List ℕ) → Begins e rest xs → records xs ≡ e ∷ records rest
 unfolding records
-records_some xs e rest there = go xs (ap first there.parts ∙ there_first e rest there.formed)
-  where
-    go : (ys : List ℕ) → first ys ≡ Some (e, rest) → records ys ≡ e ∷ records rest
-    go [] found = let less = first_shorter [] e rest found in absurd (omega arith)
-    go (y ∷ ys) found =
-        let less = first_shorter (y ∷ ys) e rest found in
-        ap (λ (r : Found). elim r [ Some p ↦ p.0 ∷ up_to (length ys) p.1 | None ↦ [] ]) found
-        ∙ ap (λ (l : List Entry). e ∷ l) (up_to_same (length ys) (length rest) rest (omega arith) (omega arith))
+records_some xs e rest there =
+    let found : first xs ≡ Some (e, rest) = ap first there.parts ∙ there_first e rest there.formed in
+    let less = first_shorter xs e rest found in
+    up_to_same (length xs) (suc (length xs)) xs (omega arith) (omega arith)
+    ∙ ap (λ (r : Found). elim r [ Some p ↦ p.0 ∷ up_to (length xs) p.1 | None ↦ [] ]) found
+    ∙ ap (λ (l : List Entry). e ∷ l) (up_to_same (length xs) (length rest) rest (omega arith) (omega arith))
 
 pub records_none : (xs : List ℕ) → first xs ≡ None → records xs ≡ []
 unfolding records
-records_none [] e = refl
-records_none (x ∷ xs) e = ap (λ (r : Found). elim r [ Some p ↦ p.0 ∷ up_to (length xs) p.1 | None ↦ [] ]) e
+records_none xs none =
+    up_to_same (length xs) (suc (length xs)) xs (omega arith) (omega arith)
+    ∙ ap (λ (r : Found). elim r [ Some p ↦ p.0 ∷ up_to (length xs) p.1 | None ↦ [] ]) none
 
--- ---- a step
-
-pub rest_within : (xs : List ℕ) (at : ℕ) (e : Entry) (rest : List ℕ) → Begins e rest (drop at xs) → length rest ≤ length xs
-rest_within xs at e rest there = omega (arith, length-drop at xs, ap length there.parts, length-append (written e) rest)
-
+-- the reading moves over the record that stands at its offset
 pub moved : (xs : List ℕ) (at : ℕ) (e : Entry) (rest : List ℕ) → at ≤ length xs → Begins e rest (drop at xs) → Moved xs at (length xs - length rest) e
 moved xs at e rest h there =
-    let size : length xs - at ≡ length (written e) + length rest = sym (length-drop at xs) ∙ ap length there.parts ∙ length-append (written e) rest in
-    let by : length xs - length rest ≡ at + length (written e) = omega arith in
-    let back : drop (length xs - length rest) xs ≡ rest =
-    ap (λ (k : ℕ). drop k xs) by
-    ∙ sym (drop-drop (length (written e)) at xs)
-    ∙ ap (drop (length (written e))) there.parts
-    ∙ drop_at (written e) rest (length (written e)) refl
-    in
+    let by : length xs - length rest ≡ at + length (written e) = omega (arith, length-drop at xs, ap length there.parts, length-append (written e) rest) in
+    let back : drop (length xs - length rest) xs ≡ rest = rw (by, ← drop-drop (length (written e)) at xs, there.parts) (drop_at (written e) rest (length (written e)) refl) in
     record {
       formed = there.formed;
-      there = there.parts ∙ ap (λ (l : List ℕ). written e ++ l) (sym back);
+      there = rw back there.parts;
       by = by;
       within = omega arith;
-      next = records_some (drop at xs) e rest there ∙ ap (λ (l : List ℕ). e ∷ records l) (sym back);
+      next = rw back (records_some (drop at xs) e rest there);
     }
-
--- a step that is not at the end goes by the record that stands there
-pub step_inside : (xs : List ℕ) (at : ℕ) → length xs ≤ 65536 → (at ≡ length xs → ⊥) → stepped xs at ≡ step_at (length xs) at (first (drop at xs))
-step_inside xs at h n =
-    let long = le-ltb 65536 (length xs) h in
-    let on = ne_eqb at (length xs) n in
-    rw (long, on) refl

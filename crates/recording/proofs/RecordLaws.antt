@@ -1,7 +1,7 @@
 -- A record and the bytes that it is written as.
-use Rattle.std.proofs.Common.{◌≡◌, ℕ, zero, suc, ◌+◌, ◌*◌, ◌/◌, ◌<◌, ◌≤◌, true, false, cond, ◌&&◌, leb, List, [], ◌∷◌, ◌++◌, length, get_or, take, drop, Some, None, Option, sym, refl, ap, ◌∙◌, subst, ap₂, ⊎_elim, append_assoc, arith, length-append, length-drop, take-append-drop, length-take-le, get_or-drop, get_or-take, take-take, drop-drop, take_at, take-add, drop_at}
+use Rattle.std.proofs.Common.{◌≡◌, ℕ, zero, suc, ◌+◌, ◌*◌, ◌/◌, ◌<◌, ◌≤◌, Bool, true, false, cond, ◌&&◌, leb, List, [], ◌∷◌, ◌++◌, length, take, drop, Some, None, Option, sym, refl, ap, ◌∙◌, append_assoc, arith, length-append, length-drop, take-append-drop, length-take-le, take-take, drop-drop, take_at, take-add, drop_at}
 use Rattle.std.proofs.lemmas.List.{drop-take}
-use Rattle.std.proofs.lemmas.Bool.{and_parts, cases_Bool, cond-false, cond-true, le-leb, leb-true}
+use Rattle.std.proofs.lemmas.Bool.{and_parts, le-leb, leb-true}
 use Rattle.std.proofs.lemmas.Bool.Decides.{nat_tests}
 use Rattle.std.proofs.lemmas.Option.{cond_some}
 use Rattle.std.specs.List.{flat_map, AllByRecursion}
@@ -12,66 +12,24 @@ use Rattle.recording.specs.Records.{Entry, keystream, remark, keystream_mark, re
 
 -- ---- what the code cuts out
 
--- the number in two bytes
-pub two_cut : (xs bytes : List ℕ) (i : ℕ) → bytes ≡ take 2 (drop i xs) → get_or bytes 0 0 * 256 + get_or bytes 1 0 ≡ two_at xs i
-unfolding two_at
-two_cut xs bytes i e =
-    let high : get_or bytes 0 0 ≡ get_or xs i 0 = ap (λ (l : List ℕ). get_or l 0 0) e ∙ get_or-take 2 (drop i xs) 0 0 (omega arith) ∙ get_or-drop i xs 0 0 ∙ ap (λ (k : ℕ). get_or xs k 0) (omega arith) in
-    let low : get_or bytes 1 0 ≡ get_or xs (i + 1) 0 = ap (λ (l : List ℕ). get_or l 1 0) e ∙ get_or-take 2 (drop i xs) 1 0 (omega arith) ∙ get_or-drop i xs 1 0 in
-    omega arith
-
 -- n blocks of a byte string are those of its first bytes
 first_chunks-take : (n : ℕ) (xs : List ℕ) → first_chunks 16 n (take (16 * n) xs) ≡ first_chunks 16 n xs
 first_chunks-take zero xs = refl
 first_chunks-take (suc n) xs =
     let more : 16 * suc n ≡ 16 + 16 * n = omega arith in
-    ap₂ (λ (b : List ℕ) (bs : List (List ℕ)). b ∷ bs)
-    (take-take 16 (16 * suc n) xs (omega arith))
-    (ap (λ (k : ℕ). first_chunks 16 n (drop 16 (take k xs))) more
-    ∙ ap (first_chunks 16 n) (drop-take 16 (16 * n) xs)
-    ∙ first_chunks-take n (drop 16 xs))
-
-blocks_cut : (n : ℕ) (xs bytes : List ℕ) → bytes ≡ take (16 * n) xs → 16 * n ≤ length xs → first_chunks 16 (length bytes / 16) bytes ≡ first_chunks 16 n xs
-blocks_cut n xs bytes e h =
-    let long : length bytes ≡ 16 * n = ap length e ∙ length-take-le (16 * n) xs h in
-    let count : length bytes / 16 ≡ n = omega arith in
-    ap₂ (first_chunks 16) count e ∙ first_chunks-take n xs
+    rw (take-take 16 (16 * suc n) xs (omega arith), more, drop-take 16 (16 * n) xs, first_chunks-take n (drop 16 xs)) refl
 
 keystream_found : (xs : List ℕ) (n : ℕ) → n ≡ two_at xs 12 → 1 ≤ n → n ≤ 1024 → 14 + 16 * n ≤ length xs → Some (keystream (take 12 xs) (first_chunks 16 n (drop 14 xs)), drop (14 + 16 * n) xs) ≡ first_keystream xs
-keystream_found xs n e low high long =
-    let a = le-leb 1 (two_at xs 12) (omega arith) in
-    let b = le-leb (two_at xs 12) 1024 (omega arith) in
-    let c = le-leb (14 + 16 * two_at xs 12) (length xs) (omega arith) in
-    ap (λ (k : ℕ). Some (keystream (take 12 xs) (first_chunks 16 k (drop 14 xs)), drop (14 + 16 * k) xs)) e ∙ rw (a, b, c) refl
+keystream_found xs n e low high long = grind (arith, nat_tests)
 
--- a keystream record cut into nonce, block count, body and what comes after
-pub keystream_cut : (xs nonce later rest body after : List ℕ) (blocks : List (List ℕ)) (n : ℕ)
-    → nonce ≡ take 12 xs → later ≡ drop 12 xs → rest ≡ drop 2 later → length rest + 14 ≡ length xs
-    → n ≡ two_at xs 12 → 1 ≤ n → n ≤ 1024 → 16 * n ≤ length rest
-    → body ≡ take (16 * n) rest → blocks ≡ first_chunks 16 (length body / 16) body → after ≡ drop (16 * n) rest
-    → Some (keystream nonce blocks, after) ≡ first_keystream xs
-keystream_cut xs nonce later rest body after blocks n front second third long count low high fits inside split back =
-    let behind : rest ≡ drop 14 xs = third ∙ ap (drop 2) second ∙ drop-drop 2 12 xs in
-    let whole : blocks ≡ first_chunks 16 n (drop 14 xs) = split ∙ blocks_cut n rest body inside fits ∙ ap (first_chunks 16 n) behind in
-    let end : after ≡ drop (14 + 16 * n) xs = back ∙ ap (drop (16 * n)) behind ∙ drop-drop (16 * n) 14 xs in
-    (λ i. Some (keystream (front i) (whole i), end i)) ∙ keystream_found xs n count low high (omega arith)
-
-remark_found : (xs : List ℕ) (n : ℕ) → n ≡ get_or xs 0 0 → 1 + n ≤ length xs → Some (remark (take n (drop 1 xs)), drop (1 + n) xs) ≡ first_remark xs
-remark_found xs n e long =
-    let a = le-leb (1 + get_or xs 0 0) (length xs) (omega arith) in
-    ap (λ (k : ℕ). Some (remark (take k (drop 1 xs)), drop (1 + k) xs)) e ∙ rw a refl
-
--- a remark cut into its length byte, its text and what comes after
-pub remark_cut : (xs rest text after : List ℕ) (byte n : ℕ)
-    → xs ≡ byte ∷ rest → n ≡ byte → n ≤ length rest → text ≡ take n rest → after ≡ drop n rest
-    → Some (remark text, after) ≡ first_remark xs
-remark_cut xs rest text after byte n parts count fits front back =
-    let long : length xs ≡ suc (length rest) = ap length parts in
-    let first-is : n ≡ get_or xs 0 0 = count ∙ ap (λ (l : List ℕ). get_or l 0 0) (sym parts) in
-    let rest-is : rest ≡ drop 1 xs = ap (drop 1) (sym parts) in
-    let whole : text ≡ take n (drop 1 xs) = front ∙ ap (take n) rest-is in
-    let end : after ≡ drop (1 + n) xs = back ∙ ap (drop n) rest-is ∙ drop-drop n 1 xs in
-    (λ i. Some (remark (whole i), end i)) ∙ remark_found xs n first-is (omega arith)
+-- a keystream record cut into nonce, count, body and what comes after
+pub keystream_cut : (xs rest : List ℕ) (n : ℕ) → rest ≡ drop 14 xs → n ≡ two_at xs 12 → 1 ≤ n → n ≤ 1024 → 16 * n ≤ length rest
+    → Some (keystream (take 12 xs) (first_chunks 16 (length (take (16 * n) rest) / 16) (take (16 * n) rest)), drop (16 * n) rest) ≡ first_keystream xs
+keystream_cut xs rest n behind e low high fits =
+    let size = length-take-le (16 * n) rest fits in
+    let count : length (take (16 * n) rest) / 16 ≡ n = omega arith in
+    let long : 14 + 16 * n ≤ length xs = omega (arith, ap length behind, length-drop 14 xs) in
+    rw (count, first_chunks-take, behind, drop-drop) (keystream_found xs n e low high long)
 
 -- ---- what is found is there
 
@@ -80,9 +38,7 @@ flat_map-first_chunks : (n : ℕ) (xs : List ℕ) → flat_map (λ block. block)
 flat_map-first_chunks zero xs = refl
 flat_map-first_chunks (suc n) xs =
     let more : 16 * suc n ≡ 16 + 16 * n = omega arith in
-    ap (λ (l : List ℕ). take 16 xs ++ l) (flat_map-first_chunks n (drop 16 xs))
-    ∙ sym (take-add 16 (16 * n) xs)
-    ∙ ap (λ (k : ℕ). take k xs) (sym more)
+    rw (more, take-add 16 (16 * n) xs, flat_map-first_chunks n (drop 16 xs)) refl
 
 length-first_chunks : (n : ℕ) (xs : List ℕ) → length (first_chunks 16 n xs) ≡ n
 length-first_chunks zero xs = refl
@@ -92,75 +48,66 @@ AllByRecursion-first_chunks : (n : ℕ) (xs : List ℕ) → 16 * n ≤ length xs
 AllByRecursion-first_chunks zero xs h = tt
 AllByRecursion-first_chunks (suc n) xs h = (length-take-le 16 xs (omega arith), AllByRecursion-first_chunks n (drop 16 xs) (simp length-drop (omega arith)))
 
-keystream_there : (xs : List ℕ) (e : Entry) (rest : List ℕ) → Octets xs → first_keystream xs ≡ Some (e, rest) → Begins e rest (keystream_mark ++ xs)
-keystream_there xs e rest o found =
+-- a byte string is its first 12 bytes, the next 2, the next n and what is left
+parted : (n : ℕ) (xs : List ℕ) → take 12 xs ++ (take 2 (drop 12 xs) ++ (take n (drop 14 xs) ++ drop (14 + n) xs)) ≡ xs
+parted n xs = rw (← drop-drop n 14 xs, take-append-drop n (drop 14 xs), ← drop-drop 2 12 xs, take-append-drop 2 (drop 12 xs)) (take-append-drop 12 xs)
+
+keystream_there : (xs : List ℕ) (p : Entry × List ℕ) → Octets xs → first_keystream xs ≡ Some p → Begins p.0 p.1 (keystream_mark ++ xs)
+keystream_there xs p o found =
     let n = two_at xs 12 in
-    let got = cond_some (leb 1 n && leb n 1024 && leb (14 + 16 * n) (length xs)) (keystream (take 12 xs) (first_chunks 16 n (drop 14 xs)), drop (14 + 16 * n) xs) (e, rest) found in
-    let tests = and_parts (leb 1 n && leb n 1024) (leb (14 + 16 * n) (length xs)) got.0 in
-    let range = and_parts (leb 1 n) (leb n 1024) tests.0 in
-    let some = leb-true 1 n range.0 in
-    let most = leb-true n 1024 range.1 in
-    let long = leb-true (14 + 16 * n) (length xs) tests.1 in
-    let count = length-first_chunks n (drop 14 xs) in
-    let body : take 2 (drop 12 xs) ++ (take (16 * n) (drop 14 xs) ++ drop (14 + 16 * n) xs) ≡ drop 12 xs =
-    ap (λ (l : List ℕ). take 2 (drop 12 xs) ++ (take (16 * n) (drop 14 xs) ++ l)) (sym (drop-drop (16 * n) 14 xs))
-    ∙ ap (λ (l : List ℕ). take 2 (drop 12 xs) ++ l) (take-append-drop (16 * n) (drop 14 xs) ∙ sym (drop-drop 2 12 xs))
-    ∙ take-append-drop 2 (drop 12 xs)
+    let blocks = first_chunks 16 n (drop 14 xs) in
+    let got = cond_some (leb 1 n && leb n 1024 && leb (14 + 16 * n) (length xs)) (keystream (take 12 xs) blocks, drop (14 + 16 * n) xs) p found in
+    let range = and_parts (leb 1 n && leb n 1024) (leb (14 + 16 * n) (length xs)) got.0 in
+    let ends = and_parts (leb 1 n) (leb n 1024) range.0 in
+    let some = leb-true 1 n ends.0 in
+    let most = leb-true n 1024 ends.1 in
+    let long = leb-true (14 + 16 * n) (length xs) range.1 in
+    let count : length blocks ≡ n = length-first_chunks n (drop 14 xs) in
+    let parts : (take 12 xs ++ (two (length blocks) ++ flat_map (λ block. block) blocks)) ++ drop (14 + 16 * n) xs ≡ xs =
+    rw (count, two_again xs 12 o (omega arith), flat_map-first_chunks n (drop 14 xs)) (simp append_assoc (parted (16 * n) xs))
     in
-    let number : two (length (first_chunks 16 n (drop 14 xs))) ≡ take 2 (drop 12 xs) = ap two count ∙ two_again xs 12 o (omega arith) in
-    let parts : xs ≡ (take 12 xs ++ (two (length (first_chunks 16 n (drop 14 xs))) ++ flat_map (λ block. block) (first_chunks 16 n (drop 14 xs)))) ++ drop (14 + 16 * n) xs =
-    sym
-    (append_assoc (take 12 xs) (two (length (first_chunks 16 n (drop 14 xs))) ++ flat_map (λ block. block) (first_chunks 16 n (drop 14 xs))) (drop (14 + 16 * n) xs)
-    ∙ ap (λ (l : List ℕ). take 12 xs ++ l) (append_assoc (two (length (first_chunks 16 n (drop 14 xs)))) (flat_map (λ block. block) (first_chunks 16 n (drop 14 xs))) (drop (14 + 16 * n) xs))
-    ∙ (λ i. take 12 xs ++ (number i ++ (flat_map-first_chunks n (drop 14 xs) i ++ drop (14 + 16 * n) xs)))
-    ∙ ap (λ (l : List ℕ). take 12 xs ++ l) body
-    ∙ take-append-drop 12 xs)
-    in
-    subst (λ (p : Entry × List ℕ). Begins p.0 p.1 (keystream_mark ++ xs)) got.1
+    rw (← got.1)
     record {
       formed = (length-take-le 12 xs (omega arith), omega arith, omega arith, AllByRecursion-first_chunks n (drop 14 xs) (simp length-drop (omega arith)));
-      parts = ap (λ (l : List ℕ). 0x4B ∷ 0x53 ∷ l) parts;
+      parts = ap (λ (l : List ℕ). keystream_mark ++ l) (sym parts);
     }
 
-remark_there : (xs : List ℕ) (e : Entry) (rest : List ℕ) → Octets xs → first_remark xs ≡ Some (e, rest) → Begins e rest (remark_mark ++ xs)
-remark_there [] e rest o found = absurd cc
-remark_there (n ∷ xs) e rest o found =
-    let got = cond_some (leb (1 + n) (suc (length xs))) (remark (take n xs), drop (1 + n) (n ∷ xs)) (e, rest) found in
+remark_there : (xs : List ℕ) (p : Entry × List ℕ) → Octets xs → first_remark xs ≡ Some p → Begins p.0 p.1 (remark_mark ++ xs)
+remark_there [] p o found = absurd cc
+remark_there (n ∷ xs) p o found =
+    let got = cond_some (leb (1 + n) (suc (length xs))) (remark (take n xs), drop (1 + n) (n ∷ xs)) p found in
     let long = leb-true (1 + n) (suc (length xs)) got.0 in
     let small = o 0 in
     let count : length (take n xs) ≡ n = length-take-le n xs (omega arith) in
     let one : 1 + n ≡ suc n = omega arith in
-    let parts : n ∷ xs ≡ length (take n xs) ∷ (take n xs ++ drop (1 + n) (n ∷ xs)) =
-    sym ((λ i. count i ∷ (take n xs ++ drop (one i) (n ∷ xs))) ∙ ap (λ (l : List ℕ). n ∷ l) (take-append-drop n xs))
-    in
-    subst (λ (p : Entry × List ℕ). Begins p.0 p.1 (remark_mark ++ (n ∷ xs))) got.1
-    record { formed = omega arith; parts = ap (λ (l : List ℕ). 0x52 ∷ 0x4D ∷ l) parts }
+    rw (← got.1)
+    record { formed = omega arith; parts = rw (count, one, take-append-drop n xs) refl }
 
-pub first_there : (xs : List ℕ) (e : Entry) (rest : List ℕ) → Octets xs → first xs ≡ Some (e, rest) → Begins e rest xs
-first_there xs e rest o found =
-    let later = Octets-drop xs 2 o in
-    ⊎_elim
-    (λ (m : same (take 2 xs) keystream_mark ≡ true).
-    let there = keystream_there (drop 2 xs) e rest later (sym (cond-true _ (first_keystream (drop 2 xs)) (cond (same (take 2 xs) remark_mark) (first_remark (drop 2 xs)) None) m) ∙ found) in
-    marked keystream_mark there m)
-    (λ (m : same (take 2 xs) keystream_mark ≡ false).
-    let other : cond (same (take 2 xs) remark_mark) (first_remark (drop 2 xs)) None ≡ Some (e, rest) =
-    sym (cond-false _ (first_keystream (drop 2 xs)) (cond (same (take 2 xs) remark_mark) (first_remark (drop 2 xs)) None) m) ∙ found
-    in
-    ⊎_elim
-    (λ (r : same (take 2 xs) remark_mark ≡ true). marked remark_mark (remark_there (drop 2 xs) e rest later (sym (cond-true _ (first_remark (drop 2 xs)) None r) ∙ other)) r)
-    (λ (r : same (take 2 xs) remark_mark ≡ false).
-    let none : None ≡ Some (e, rest) = sym (cond-false _ (first_remark (drop 2 xs)) None r) ∙ other in
-    absurd cc)
-    (cases_Bool (same (take 2 xs) remark_mark)))
-    (cases_Bool (same (take 2 xs) keystream_mark))
+marked : (xs mark rest : List ℕ) (e : Entry) → Begins e rest (mark ++ drop 2 xs) → same (take 2 xs) mark ≡ true → Begins e rest xs
+marked xs mark rest e there m =
+    record {
+      formed = there.formed;
+      parts = sym (take-append-drop 2 xs) ∙ ap (λ (l : List ℕ). l ++ drop 2 xs) (same_true (take 2 xs) mark m) ∙ there.parts;
+    }
+
+pub first_there : (xs : List ℕ) (p : Entry × List ℕ) → Octets xs → first xs ≡ Some p → Begins p.0 p.1 xs
+first_there xs p o found = go (same (take 2 xs) keystream_mark) (same (take 2 xs) remark_mark) refl refl found
   where
-    marked : (mark : List ℕ) → Begins e rest (mark ++ drop 2 xs) → same (take 2 xs) mark ≡ true → Begins e rest xs
-    marked mark there m =
-        record {
-          formed = there.formed;
-          parts = sym (take-append-drop 2 xs) ∙ ap (λ (l : List ℕ). l ++ drop 2 xs) (same_true (take 2 xs) mark m) ∙ there.parts;
-        }
+    go : (k r : Bool) → same (take 2 xs) keystream_mark ≡ k → same (take 2 xs) remark_mark ≡ r
+        → cond k (first_keystream (drop 2 xs)) (cond r (first_remark (drop 2 xs)) None) ≡ Some p → Begins p.0 p.1 xs
+    go true r k-is r-is f = marked xs keystream_mark p.1 p.0 (keystream_there (drop 2 xs) p (Octets-drop xs 2 o) f) k-is
+    go false true k-is r-is f = marked xs remark_mark p.1 p.0 (remark_there (drop 2 xs) p (Octets-drop xs 2 o) f) r-is
+    go false false k-is r-is f = absurd cc
+
+-- what comes after a record is shorter
+keystream_shorter : (xs : List ℕ) (e : Entry) (rest : List ℕ) → first_keystream xs ≡ Some (e, rest) → length rest < length xs
+keystream_shorter xs e rest found = grind (arith, nat_tests, length-drop {A = ℕ})
+
+remark_shorter : (xs : List ℕ) (e : Entry) (rest : List ℕ) → first_remark xs ≡ Some (e, rest) → length rest < length xs
+remark_shorter xs e rest found = grind (arith, nat_tests, length-drop {A = ℕ})
+
+pub first_shorter : (xs : List ℕ) (e : Entry) (rest : List ℕ) → first xs ≡ Some (e, rest) → length rest < length xs
+first_shorter xs e rest found = grind (arith, nat_tests, keystream_shorter, remark_shorter, length-drop {A = ℕ})
 
 -- ---- what is there is found
 
@@ -183,45 +130,24 @@ pub there_first : (e : Entry) (rest : List ℕ) → WellFormed e → first (writ
 there_first (keystream nonce blocks) rest w =
     let n = length blocks in
     let all = flat_map (λ block. block) blocks in
-    let xs = (nonce ++ (two n ++ all)) ++ rest in
-    let flat : xs ≡ nonce ++ (two n ++ (all ++ rest)) = append_assoc nonce (two n ++ all) rest ∙ ap (λ (l : List ℕ). nonce ++ l) (append_assoc (two n) all rest) in
-    let at = w.0 in
+    let xs = nonce ++ (two n ++ (all ++ rest)) in
+    let flat : (nonce ++ (two n ++ all)) ++ rest ≡ xs = simp append_assoc in
     let size = length-flat_map blocks w.3 in
-    let count : n ≡ two_at xs 12 = sym (ap (λ (l : List ℕ). two_at l 12) flat ∙ ap (two_at (nonce ++ (two n ++ (all ++ rest)))) (sym at) ∙ two_read nonce (all ++ rest) n (omega (arith, w.2))) in
-    let long : length xs ≡ 14 + 16 * n + length rest = ap length flat ∙ simp (length-append, length_two) (omega arith) in
-    let front : take 12 xs ≡ nonce = ap (take 12) flat ∙ take_at nonce (two n ++ (all ++ rest)) 12 at in
-    let body : drop 14 xs ≡ all ++ rest =
-    sym (drop-drop 2 12 xs)
-    ∙ ap (drop 2) (ap (drop 12) flat ∙ drop_at nonce (two n ++ (all ++ rest)) 12 at)
-    ∙ drop_at (two n) (all ++ rest) 2 (length_two n)
-    in
-    let back : drop (14 + 16 * n) xs ≡ rest = sym (drop-drop (16 * n) 14 xs) ∙ ap (drop (16 * n)) body ∙ drop_at all rest (16 * n) size in
-    sym (keystream_found xs n count w.1 w.2 (omega arith))
-    ∙ (λ i. Some (keystream (front i) (first_chunks 16 n (body i)), back i))
-    ∙ ap (λ (l : List (List ℕ)). Some (keystream nonce l, rest)) (first_chunks-flat_map blocks rest w.3)
+    let count : n ≡ two_at xs 12 = sym (ap (two_at xs) (sym w.0) ∙ two_read nonce (all ++ rest) n (omega (arith, w.2))) in
+    let long : length xs ≡ 14 + 16 * n + length rest = simp (length-append, length_two) (omega (arith, w.0)) in
+    let body : drop 14 xs ≡ all ++ rest = rw (← drop-drop 2 12 xs, drop_at nonce (two n ++ (all ++ rest)) 12 w.0) (drop_at (two n) (all ++ rest) 2 (length_two n)) in
+    let back : drop (14 + 16 * n) xs ≡ rest = rw (← drop-drop (16 * n) 14 xs, body) (drop_at all rest (16 * n) size) in
+    ap first_keystream flat
+    ∙ sym (keystream_found xs n count w.1 w.2 (omega arith))
+    ∙ rw (take_at nonce (two n ++ (all ++ rest)) 12 w.0, body, back, first_chunks-flat_map blocks rest w.3) refl
 there_first (remark text) rest w =
-    let xs = length text ∷ (text ++ rest) in
     let long = length-append text rest in
-    let text-is = take_at text rest (length text) refl in
     let one : 1 + length text ≡ suc (length text) = omega arith in
-    let rest-is : drop (1 + length text) xs ≡ rest = ap (λ (k : ℕ). drop k xs) one ∙ drop_at text rest (length text) refl in
-    sym (remark_found xs (length text) refl (omega arith)) ∙ (λ i. Some (remark (text-is i), rest-is i))
+    let fits = le-leb (1 + length text) (suc (length (text ++ rest))) (omega arith) in
+    rw (fits, one, take_at text rest (length text) refl, drop_at text rest (length text) refl) refl
 
-pub first_faithful : (xs : List ℕ) → Octets xs → Faithful xs (first xs)
-first_faithful xs o = told (first xs) refl
-  where
-    told : (r : Option (Entry × List ℕ)) → first xs ≡ r → Faithful xs r
-    told None e = λ entry rest there.
-        let found : first xs ≡ Some (entry, rest) = ap first there.parts ∙ there_first entry rest there.formed in
-        absurd cc
-    told (Some p) e = first_there xs p.0 p.1 o e
-
--- what comes after a record is shorter
-keystream_shorter : (xs : List ℕ) (e : Entry) (rest : List ℕ) → first_keystream xs ≡ Some (e, rest) → length rest < length xs
-keystream_shorter xs e rest found = grind (arith, nat_tests, length-drop {A = ℕ})
-
-remark_shorter : (xs : List ℕ) (e : Entry) (rest : List ℕ) → first_remark xs ≡ Some (e, rest) → length rest < length xs
-remark_shorter xs e rest found = grind (arith, nat_tests, length-drop {A = ℕ})
-
-pub first_shorter : (xs : List ℕ) (e : Entry) (rest : List ℕ) → first xs ≡ Some (e, rest) → length rest < length xs
-first_shorter xs e rest found = grind (arith, nat_tests, keystream_shorter, remark_shorter, length-drop {A = ℕ})
+pub found_faithful : (xs : List ℕ) (found : Option (Entry × List ℕ)) → Octets xs → found ≡ first xs → Faithful xs found
+found_faithful xs None o e = λ entry rest there.
+    let here : first xs ≡ Some (entry, rest) = ap first there.parts ∙ there_first entry rest there.formed in
+    absurd cc
+found_faithful xs (Some p) o e = first_there xs p o (sym e)

@@ -45,9 +45,7 @@ impl<'a> Reader<'a> {
         if self.offset == self.bytes.len() {
             return Ok(None);
         }
-        let Some((record, rest)) = Record::first(&self.bytes[self.offset..]) else {
-            return Err(refuse(self.offset));
-        };
+        let (record, rest) = Record::first(&self.bytes[self.offset..]).ok_or(refuse(self.offset))?;
         self.offset = self.bytes.len() - rest.len();
         Ok(Some(record))
     }

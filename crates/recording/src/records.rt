@@ -49,13 +49,14 @@ impl<'a> Record<'a> {
 }
 
 /// The keystream record whose bytes after the mark `bytes` begins with, and the bytes after it.
+#[tactic(auto, unfolding(units::specs::Strings::two_at))]
 fn keystream(bytes: &[u8]) -> Option<(Record<'_>, &[u8])>
     ensures { option_map parsed result ≡ first_keystream bytes.now }
 {
     let (nonce, rest) = bytes.split_first_chunk::<12>()?;
     let (count, rest) = rest.split_first_chunk::<2>()?;
     let count = usize::from(u16::from_be_bytes(*count));
-    if count < FEWEST_BLOCKS || count > MOST_BLOCKS {
+    if !(FEWEST_BLOCKS..=MOST_BLOCKS).contains(&count) {
         return None;
     }
     let (body, rest) = rest.split_at_checked(16 * count)?;

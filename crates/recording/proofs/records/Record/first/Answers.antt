@@ -1,17 +1,11 @@
-use Rattle.std.proofs.Common.{◌≡◌, sym, subst, arith, rules}
+use Rattle.std.proofs.Common.{arith, rules}
 use Rattle.std.specs.Option.{option_map}
-use Rattle.recording.specs.Records.{Faithful, first, parsed}
-use Rattle.recording.proofs.RecordLaws.{first_faithful}
+use Rattle.recording.specs.Records.{parsed}
+use Rattle.recording.proofs.RecordLaws.{found_faithful}
 use Rattle.recording.proofs.records.Record.first.Goals as goal
 
-pub returns-in-KEYSTREAM_MARK : goal.returns-in-KEYSTREAM_MARK
-returns-in-KEYSTREAM_MARK c =
-    let xs = c.args.bytes.now in
-    let value : option_map parsed c.keystream.result ≡ first xs = search rules in
-    record { value = value; faithful = subst (Faithful xs) (sym value) (first_faithful xs (λ k. omega (arith, c.type_inv.bytes k))) }
+pub returns-in-KEYSTREAM_MARK-clause-faithful : goal.returns-in-KEYSTREAM_MARK-clause-faithful
+returns-in-KEYSTREAM_MARK-clause-faithful c = found_faithful c.args.bytes.now (option_map parsed c.keystream.result) (λ k. omega (arith, c.type_inv.bytes k)) (search rules)
 
-pub returns-in-REMARK_MARK : goal.returns-in-REMARK_MARK
-returns-in-REMARK_MARK c =
-    let xs = c.args.bytes.now in
-    let value : option_map parsed c.remark.result ≡ first xs = search rules in
-    record { value = value; faithful = subst (Faithful xs) (sym value) (first_faithful xs (λ k. omega (arith, c.type_inv.bytes k))) }
+pub returns-in-REMARK_MARK-clause-faithful : goal.returns-in-REMARK_MARK-clause-faithful
+returns-in-REMARK_MARK-clause-faithful c = found_faithful c.args.bytes.now (option_map parsed c.remark.result) (λ k. omega (arith, c.type_inv.bytes k)) (search rules)
