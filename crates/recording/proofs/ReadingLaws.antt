@@ -1,8 +1,11 @@
 -- The records of a recording, one after the other, and what a step of the reading leaves.
-use Rattle.std.proofs.Common.{◌≡◌, ℕ, zero, suc, ◌+◌, ◌-◌, ◌<◌, ◌≤◌, List, [], ◌∷◌, length, drop, Some, None, Option, refl, ap, ◌∙◌, arith, length-append, length-drop, drop-drop, drop_at}
-use Rattle.std.proofs.lemmas.List.{nil_from_length}
-use Rattle.recording.specs.Reading.{Moved, records, up_to}
+use Rattle.std.proofs.Common.{◌≡◌, ℕ, zero, suc, ◌+◌, ◌-◌, ◌<◌, ◌≤◌, List, [], ◌∷◌, length, drop, Some, None, Ok, Err, Option, Result, refl, ap, ◌∙◌, arith, length-append, length-drop, drop-drop, drop_at}
+use Rattle.std.proofs.lemmas.List.{drop_all, nil_from_length}
+use Rattle.std.proofs.lemmas.Bool.Decides.{nat_tests}
+use Rattle.units.specs.declared.refusals.Refusal.{Refusal}
+use Rattle.recording.specs.Reading.{Moved, ahead, answered, placed, records, step, stepped, up_to}
 use Rattle.recording.specs.Records.{Entry, Begins, first, written}
+use Rattle.recording.specs.declared.records.Record.{Record}
 use Rattle.recording.proofs.RecordLaws.{first_shorter, there_first}
 
 abbrev pub Found : Type 0
@@ -47,3 +50,34 @@ moved xs at e rest h there =
       within = omega arith;
       next = rw back (records_some (drop at xs) e rest there);
     }
+
+-- ---- what a reading comes to
+
+-- a record that is handed out was the first ahead
+pub ahead_some : (xs : List ℕ) (at to : ℕ) (e : Entry) → step (Ok (Some e)) to ≡ stepped xs at → Moved xs at to e → ahead xs at ≡ (at, e) ∷ ahead xs to
+unfolding ahead
+ahead_some xs at to e by m =
+    let more = ap (placed at) m.next in
+    grind (arith, nat_tests, more, m.by)
+
+-- at the end and at a fault none is ahead, and the reading stays
+ahead_end : (xs : List ℕ) (at to : ℕ) → step (Ok None) to ≡ stepped xs at → (ahead xs at ≡ []) × (ahead xs to ≡ [])
+unfolding ahead
+ahead_end xs at to by =
+    let empty : length xs ≤ at → records (drop at xs) ≡ [] = λ h. ap records (drop_all at xs h) ∙ records_none [] refl in
+    (grind (arith, nat_tests), grind (arith, nat_tests))
+
+ahead_fault : (xs : List ℕ) (at to : ℕ) (why : Refusal) → step (Err why) to ≡ stepped xs at → (ahead xs at ≡ []) × (ahead xs to ≡ [])
+unfolding ahead
+ahead_fault xs at to why by = go (first (drop at xs)) refl
+  where
+    go : (f : Found) → first (drop at xs) ≡ f → (ahead xs at ≡ []) × (ahead xs to ≡ [])
+    go (Some p) found = (grind (arith, nat_tests), grind (arith, nat_tests))
+    go None found = let nothing = records_none (drop at xs) found in (grind (arith, nat_tests), grind (arith, nat_tests))
+
+-- where the code has no record to hand out, none is ahead
+pub ahead_none : (xs : List ℕ) (at to : ℕ) (r : Result (Option Record) Refusal) → ((found : Record) → r ≡ Ok (Some found) → ⊥) → step (answered r) to ≡ stepped xs at
+    → (ahead xs at ≡ []) × (ahead xs to ≡ [])
+ahead_none xs at to (Ok (Some found)) never by = absurd (never found refl)
+ahead_none xs at to (Ok None) never by = ahead_end xs at to by
+ahead_none xs at to (Err why) never by = ahead_fault xs at to why by

@@ -59,3 +59,12 @@ abbrev pub Lawful : List ℕ → ℕ → Result (Option Entry) Refusal → ℕ �
 Lawful xs from (Ok (Some e)) to = Moved xs from to e
 Lawful xs from (Ok None) to = (from ≡ length xs) × (to ≡ from)
 Lawful xs from (Err r) to = (to ≡ from) × (length xs ≤ 65536 → (e : Entry) (rest : List ℕ) → Begins e rest (drop from xs) → ⊥)
+
+-- each record with its offset, where the first stands at the offset `at`
+abbrev pub placed : ℕ → List Entry → List (ℕ × Entry)
+placed at [] = []
+placed at (e ∷ es) = (at, e) ∷ placed (at + length (written e)) es
+
+-- the records that a reading of xs at an offset comes to before the first fault, each with its offset
+unfoldable pub ahead : List ℕ → ℕ → List (ℕ × Entry)
+ahead xs at = cond (nat_lt 65536 (length xs)) [] (placed at (records (drop at xs)))

@@ -49,6 +49,37 @@ impl<'a> Reader<'a> {
         self.offset = self.bytes.len() - rest.len();
         Ok(Some(record))
     }
+
+    /// The records from the next one on, each with its offset, up to the end or the first fault.
+    pub fn record_indices(self) -> RecordIndices<'a>
+        ensures { result.reader ≡ self.entry }
+    {
+        RecordIndices { reader: self }
+    }
+}
+
+/// The result of [`Reader::record_indices`].
+#[derive(Clone, Copy, Debug)]
+pub struct RecordIndices<'a> {
+    reader: Reader<'a>,
+}
+
+impl<'a> Iterator for RecordIndices<'a> {
+    ghost use Rattle.std.specs.Iterator.{YieldsFirstBy, item_count};
+    ghost use Rattle.recording.specs.Reading.{ahead};
+    ghost use Rattle.recording.specs.Records.{entry};
+
+    type Item = (Bytes, Record<'a>);
+
+    ghost next_gives = { YieldsFirstBy (λ p. (p.0.0, entry p.1)) (λ s. ahead s.reader.bytes.now s.reader.offset) };
+
+    ghost remaining = { item_count (λ s. ahead s.reader.bytes.now s.reader.offset) };
+
+    fn next(&mut self) -> Option<(Bytes, Record<'a>)> {
+        let offset = self.reader.offset();
+        let record = self.reader.next_record().ok()??;
+        Some((offset, record))
+    }
 }
 
 /// A fault of the recording at a place.
