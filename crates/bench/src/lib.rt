@@ -6,7 +6,7 @@ ghost use Rattle.field.specs.Blocks.{block_bytes, polynomial};
 ghost use Rattle.field.specs.Folds.{fold};
 
 use field::{Block, fold};
-use units::Bits;
+use units::{BitString, Bits};
 
 /// Folds so many bits of data with the block `h`, from the block `value` and into it.
 #[unsafe(no_mangle)]
@@ -16,8 +16,10 @@ pub extern "C" fn bench_fold(h: &[u8; 16], value: &mut [u8; 16], bits: u32, byte
     let folded = fold(
         Block::from_bytes(h),
         Block::from_bytes(value),
-        Bits(bits),
-        bytes,
+        BitString {
+            bits: Bits(bits),
+            bytes,
+        },
     );
     *value = folded.to_bytes();
 }

@@ -1,12 +1,12 @@
 -- Blocks and their polynomials.
-use Rattle.std.proofs.Common.{◌≡◌, ℕ, zero, suc, ◌+◌, ◌*◌, ◌/◌, ◌%◌, ◌^◌, ◌<◌, ◌≤◌, List, [], ◌∷◌, ◌++◌, map, length, get_or, take, drop, sym, refl, ap, ◌∙◌, ap₂, le_refl, le_of_suc-le-suc, not-suc-le-zero, mul_comm, add_comm, pow-suc, arith, lit<, length-append, length-drop, length-take, drop-drop}
-use native.Mathlib.Decide.{le_ind}
-use native.Mathlib.Nat.{mod-one}
-use lib.Arith.{mod-mul}
-use lib.Bits.{bit_xor, xor_block, xor_mod, xor_shr}
-use lib.Lanes.{digits_l}
-use lib.Seq.{drop-append-le, take-append-le}
+use Rattle.std.proofs.Common.{◌≡◌, ℕ, zero, suc, ◌+◌, ◌*◌, ◌/◌, ◌%◌, ◌^◌, ◌<◌, ◌≤◌, List, [], ◌∷◌, ◌++◌, map, length, get_or, take, drop, sym, refl, ap, ◌∙◌, ap₂, le_refl, le_of_suc-le-suc, not-suc-le-zero, mul_comm, add_comm, pow-suc, arith, lit<, length-append, length-drop, length-take, drop-drop, bit_xor}
 use Rattle.std.specs.Simd.{first_chunks}
+use Rattle.std.proofs.Math.Decide.{le_ind}
+use Rattle.std.proofs.Math.Nat.{mod-one}
+use Rattle.std.proofs.Math.Arith.{mod-mul}
+use Rattle.std.proofs.lemmas.Nat.{xor_block, xor_mod, xor_shr}
+use Rattle.std.specs.Simd.Lanes.{digits_l}
+use Rattle.std.proofs.lemmas.List.{drop-append-le, take-append-le}
 use Rattle.units.specs.Strings.{Octets}
 use Rattle.units.specs.Sums.{◌⊕◌, sums}
 use Rattle.units.proofs.StringLaws.{Octets-drop, Octets-take}

@@ -1,9 +1,9 @@
 -- The fold.
 use Rattle.std.proofs.Common.{◌≡◌, ℕ, ◌+◌, ◌-◌, ◌*◌, ◌/◌, ◌%◌, ◌^◌, ◌<◌, ◌≤◌, min, List, [], ◌∷◌, ◌++◌, map, length, get_or, take, drop, sym, refl, ap, ◌∙◌, ap₂, ⊎_elim, append-nil, add-one, arith, length-drop, length-take, drop-cons}
-use native.Mathlib.Nat.{min_comm}
-use lib.Bits.{xor_assoc, xor_zero_r}
 use Rattle.std.proofs.lemmas.List.{drop_all, nil_from_length, take_all}
 use Rattle.std.proofs.lemmas.Bool.{cases_lt}
+use Rattle.std.proofs.Math.Nat.{min_comm}
+use Rattle.std.specs.Int.Bits.{xor_assoc, xor_zero_r}
 use Rattle.units.specs.Spare.{cleared}
 use Rattle.units.specs.Sums.{◌⊕◌, sums}
 use Rattle.units.proofs.SpareLaws.{cleared-append, cleared_split, cleared-sums, cleared_whole, drop-cleared, length-cleared, Octets-cleared, take-cleared}

@@ -1,7 +1,7 @@
 -- The tag.
 use Rattle.std.proofs.Common.{◌≡◌, ℕ, min, List, ◌++◌, length, take, drop, sym, ap, ◌∙◌, ap₂}
-use native.Mathlib.Nat.{min_comm}
-use lib.Lanes.{digits_l}
+use Rattle.std.proofs.Math.Nat.{min_comm}
+use Rattle.std.specs.Simd.Lanes.{digits_l}
 use Rattle.units.specs.Sums.{◌⊕◌, sums}
 use Rattle.units.proofs.StringLaws.{drop_least, take_least}
 use Rattle.units.proofs.SumLaws.{take-sums, terms}

@@ -4,8 +4,10 @@ ghost use Rattle.std.specs.Prelude.{◌≡◌, ◌≤◌, length, bit_xor};
 ghost use Rattle.polynomials.specs.Field.{pdot};
 ghost use Rattle.field.specs.Blocks.{block_bytes, polynomial};
 
-/// A block, as the polynomial that it stands for.
-#[derive(Clone, Copy)]
+use std::ops::Add;
+
+/// A block, as the polynomial that it stands for. It is not `Debug`: most blocks are secret.
+#[derive(Clone, Copy, PartialEq, Eq)]
 pub struct Block(pub u128);
 
 impl Block {
@@ -36,11 +38,15 @@ impl Block {
     {
         self.0.to_le_bytes()
     }
+}
 
-    /// The sum of two blocks.
-    pub(crate) fn plus(self, other: Block) -> Block
-        ensures { result.0 ≡ bit_xor self.0 other.0 }
-    {
+/// The sum of two blocks.
+impl Add for Block {
+    type Output = Block;
+
+    ghost add_gives = { λ a b sum. sum.0 ≡ bit_xor a.0 b.0 };
+
+    fn add(self, other: Block) -> Block {
         Block(self.0 ^ other.0)
     }
 }

@@ -5,17 +5,17 @@ ghost use Rattle.field.specs.Blocks.{blocks, polynomial};
 ghost use Rattle.field.specs.Folds.{FoldStands, fold, folded};
 
 use super::blocks::{Block, pdot};
-use units::{Bits, clear_spare};
+use units::{BitString, Bits, clear_spare};
 
 /// Folds so many bits of data with `h`, from `v`. The last block is filled with zero bytes; spare bits count as zero, and
 /// in data of more bytes than the bits fill, all further bits are spare.
-pub fn fold(h: Block, v: Block, bits: Bits, bytes: &[u8]) -> Block
-    ensures value { result.0 ≡ fold h.0 v.0 bits.0 bytes.now }
+pub fn fold(h: Block, v: Block, input: BitString<'_>) -> Block
+    ensures value { result.0 ≡ fold h.0 v.0 input.entry.bits.0 input.entry.bytes.now }
     ensures stands { FoldStands }
 {
-    let (whole, left) = bits.split();
-    let end = (whole as usize * 16).min(bytes.len());
-    let (front, back) = bytes.split_at(end);
+    let (whole, left) = input.bits.split();
+    let end = (whole as usize * 16).min(input.bytes.len());
+    let (front, back) = input.bytes.split_at(end);
     fold_left(h, fold_bytes(h, v, front), left, back)
 }
 
@@ -26,10 +26,10 @@ fn fold_bytes(h: Block, v: Block, bytes: &[u8]) -> Block
     let (full, last) = bytes.as_chunks::<16>();
     let mut v = v;
     for block in full {
-        v = pdot(v.plus(Block::from_bytes(block)), h);
+        v = pdot(v + Block::from_bytes(block), h);
     }
     if !last.is_empty() {
-        v = pdot(v.plus(Block::filled(last)), h);
+        v = pdot(v + Block::filled(last), h);
     }
     v
 }
@@ -43,7 +43,7 @@ fn fold_left(h: Block, v: Block, bits: Bits, bytes: &[u8]) -> Block
     let mut rest = bytes;
     while !rest.is_empty() {
         let (part, later) = rest.split_at(rest.len().min(16));
-        v = pdot(v.plus(cleared_block(bits, part)), h);
+        v = pdot(v + cleared_block(bits, part), h);
         bits = Bits(bits.0.saturating_sub(128));
         rest = later;
     }

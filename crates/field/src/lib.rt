@@ -10,4 +10,4 @@ pub mod tags;
 
 pub use blocks::{Block, pdot};
 pub use folds::fold;
-pub use tags::{TagKeys, tag, whole_tag};
+pub use tags::TagKeys;

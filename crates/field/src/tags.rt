@@ -4,7 +4,7 @@ ghost use Rattle.field.specs.Tags.{TagStands, lengths, tag, whole_tag};
 
 use super::blocks::{Block, pdot};
 use super::folds::fold;
-use units::Bits;
+use units::{BitString, Bits};
 
 /// H, Q and P, the blocks that a tag is made with.
 #[derive(Clone, Copy)]
@@ -14,30 +14,25 @@ pub struct TagKeys {
     pub p: Block,
 }
 
-/// Writes the tag at the start of `out`, as many of its bytes as `out` has; what `out` has past sixteen stays.
-pub fn tag(
-    keys: &TagKeys,
-    aad_bits: Bits,
-    aad: &[u8],
-    bits: Bits,
-    ciphertext: &[u8],
-    out: &mut [u8],
-)
-    ensures after { out.new ≡ tag keys.now.h.0 keys.now.q.0 keys.now.p.0 (length out.old) aad_bits.0 aad.now bits.0 ciphertext.now ++ drop 16 out.old }
-    ensures stands { TagStands }
-{
-    let whole = whole_tag(keys, aad_bits, aad, bits, ciphertext).to_bytes();
-    let size = out.len().min(16);
-    out[0..size].copy_from_slice(&whole[0..size]);
-}
+impl TagKeys {
+    /// Writes the tag at the start of `out`, as many of its bytes as `out` has; what `out` has past sixteen stays.
+    pub fn tag(&self, aad: BitString<'_>, ciphertext: BitString<'_>, out: &mut [u8])
+        ensures after { out.new ≡ tag self.now.h.0 self.now.q.0 self.now.p.0 (length out.old) aad.entry.bits.0 aad.entry.bytes.now ciphertext.entry.bits.0 ciphertext.entry.bytes.now ++ drop 16 out.old }
+        ensures stands { TagStands }
+    {
+        let whole = self.whole_tag(aad, ciphertext).to_bytes();
+        let size = out.len().min(16);
+        out[0..size].copy_from_slice(&whole[0..size]);
+    }
 
-/// The sixteen bytes that a tag is the beginning of, as a block.
-pub fn whole_tag(keys: &TagKeys, aad_bits: Bits, aad: &[u8], bits: Bits, ciphertext: &[u8]) -> Block
-    ensures { result.0 ≡ whole_tag keys.now.h.0 keys.now.q.0 keys.now.p.0 aad_bits.0 aad.now bits.0 ciphertext.now }
-{
-    let of_aad = fold(keys.h, Block::ZERO, aad_bits, aad);
-    let of_both = fold(keys.h, of_aad, bits, ciphertext);
-    pdot(of_both.plus(lengths(bits, aad_bits)), keys.q).plus(keys.p)
+    /// The sixteen bytes that a tag is the beginning of, as a block.
+    pub fn whole_tag(&self, aad: BitString<'_>, ciphertext: BitString<'_>) -> Block
+        ensures { result.0 ≡ whole_tag self.now.h.0 self.now.q.0 self.now.p.0 aad.entry.bits.0 aad.entry.bytes.now ciphertext.entry.bits.0 ciphertext.entry.bytes.now }
+    {
+        let of_aad = fold(self.h, Block::ZERO, aad);
+        let of_both = fold(self.h, of_aad, ciphertext);
+        pdot(of_both + lengths(ciphertext.bits, aad.bits), self.q) + self.p
+    }
 }
 
 /// The message bits as four bytes at offset 0, and the AAD bits at offset 8, the least significant byte first.

@@ -7,5 +7,5 @@ unfolding split
 returns c =
     let front = c.split_at.ensures.front in
     let back = c.split_at.ensures.back in
-    let all = fold_split c.args.h.0 c.args.v.0 c.args.bits.0 c.min-end.result c.args.bytes.now (cc) in
+    let all = fold_split c.args.h.0 c.args.v.0 c.args.input.bits.0 c.min-end.result c.args.input.bytes.now (cc) in
     record { value = cc; stands = fold_stands }

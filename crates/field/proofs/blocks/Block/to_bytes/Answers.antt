@@ -1,5 +1,5 @@
 use Rattle.std.proofs.Common.{◌≡◌, ap, ◌∙◌, mod-eq_of_lt, arith}
-use native.Mathlib.Nat.{div-div-eq-div-mul}
+use Rattle.std.proofs.Math.Nat.{div-div-eq-div-mul}
 use Rattle.field.specs.Blocks.{block_bytes, polynomial}
 use Rattle.field.proofs.BlockLaws.{polynomial-digits}
 use Rattle.field.proofs.blocks.Block.to_bytes.Goals as goal

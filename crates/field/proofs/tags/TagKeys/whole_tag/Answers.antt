@@ -1,5 +1,5 @@
 use Rattle.field.specs.Tags.{whole_tag}
-use Rattle.field.proofs.tags.whole_tag.Goals as goal
+use Rattle.field.proofs.tags.TagKeys.whole_tag.Goals as goal
 
 pub returns : goal.returns
 unfolding whole_tag
