@@ -1,5 +1,5 @@
 -- Blocks and their polynomials.
-use Rattle.std.proofs.Common.{◌≡◌, ℕ, zero, suc, ◌+◌, ◌*◌, ◌/◌, ◌%◌, ◌^◌, ◌<◌, ◌≤◌, List, [], ◌∷◌, ◌++◌, map, length, get_or, take, drop, sym, refl, ap, ◌∙◌, ap₂, le_refl, le_of_suc-le-suc, not-suc-le-zero, mul_comm, add_comm, pow-suc, arith, lit<, length-append, length-drop, length-take, drop-drop, bit_xor}
+use Rattle.std.proofs.Common.{◌≡◌, ℕ, zero, suc, ◌+◌, ◌-◌, ◌*◌, ◌/◌, ◌%◌, ◌^◌, ◌<◌, ◌≤◌, List, [], ◌∷◌, ◌++◌, map, length, get_or, take, drop, replicate, sym, refl, ap, ◌∙◌, ap₂, le_refl, le_of_suc-le-suc, not-suc-le-zero, div-mul-le_self, mul_comm, add_comm, pow-suc, arith, lit<, length-append, length-drop, length-take, drop-drop, bit_xor}
 use Rattle.std.specs.Simd.{first_chunks}
 use Rattle.std.proofs.Math.Decide.{le_ind}
 use Rattle.std.proofs.Math.Nat.{mod-one}
@@ -9,6 +9,8 @@ use Rattle.std.specs.Simd.Lanes.{digits_l}
 use Rattle.std.proofs.lemmas.List.{drop-append-le, take-append-le}
 use Rattle.units.specs.Strings.{Octets}
 use Rattle.units.specs.Sums.{◌⊕◌, sums}
+use Rattle.units.specs.Spare.{cleared, high}
+use Rattle.units.proofs.SpareLaws.{cleared_whole, drop-cleared, length-cleared, take-cleared}
 use Rattle.units.proofs.StringLaws.{Octets-drop, Octets-take}
 use Rattle.units.proofs.SumLaws.{drop-sums, length-sums, take-sums}
 use Rattle.field.specs.Blocks.{blocks, blocks_by, polynomial}
@@ -33,21 +35,24 @@ polynomial_sixteen xs h =
     let at = λ (k : ℕ). polynomial_at k xs in
     omega (arith, at 0, at 1, at 2, at 3, at 4, at 5, at 6, at 7, at 8, at 9, at 10, at 11, at 12, at 13, at 14, at 15, polynomial_past 16 xs h)
 
-polynomial-append-zero : (xs ys : List ℕ) → polynomial ys ≡ 0 → polynomial (xs ++ ys) ≡ polynomial xs
-polynomial-append-zero [] ys h = h
-polynomial-append-zero (x ∷ xs) ys h = ap (λ (n : ℕ). x + 256 * n) (polynomial-append-zero xs ys h)
+high-le : (n x : ℕ) → high n x ≤ x
+unfolding high
+high-le n x = div-mul-le_self x (2 ^ (8 - n))
 
-polynomial-drop-zero : (n : ℕ) (ys : List ℕ) → polynomial ys ≡ 0 → polynomial (drop n ys) ≡ 0
-polynomial-drop-zero zero ys h = h
-polynomial-drop-zero (suc n) [] h = refl
-polynomial-drop-zero (suc n) (y ∷ ys) h = polynomial-drop-zero n ys (omega arith)
+pub polynomial-zeros : (j n : ℕ) → polynomial (drop j (replicate n 0)) ≡ 0
+polynomial-zeros zero zero = refl
+polynomial-zeros zero (suc n) = omega (arith, polynomial-zeros zero n)
+polynomial-zeros (suc j) zero = refl
+polynomial-zeros (suc j) (suc n) = polynomial-zeros j n
 
--- bytes written over the first of a block of zeros
-abbrev pub zeros : List ℕ
-zeros = 0 ∷ 0 ∷ 0 ∷ 0 ∷ 0 ∷ 0 ∷ 0 ∷ 0 ∷ 0 ∷ 0 ∷ 0 ∷ 0 ∷ 0 ∷ 0 ∷ 0 ∷ 0 ∷ []
-
-pub polynomial-filled : (n : ℕ) (xs : List ℕ) → polynomial (xs ++ drop n zeros) ≡ polynomial xs
-polynomial-filled n xs = polynomial-append-zero xs (drop n zeros) (polynomial-drop-zero n zeros refl)
+-- bytes filled with zero bytes, cleared after it
+pub polynomial-filled : (n : ℕ) (xs ys : List ℕ) → polynomial ys ≡ 0 → polynomial (cleared n (xs ++ ys)) ≡ polynomial (cleared n xs)
+polynomial-filled n [] [] h = refl
+polynomial-filled n [] (y ∷ ys) h =
+    let rest = polynomial-filled (n - 8) [] ys (omega arith) in
+    let byte = high-le n y in
+    omega arith
+polynomial-filled n (x ∷ xs) ys h = ap (λ (p : ℕ). high n x + 256 * p) (polynomial-filled (n - 8) xs ys h)
 
 polynomial-sums : (xs ys : List ℕ) → length xs ≡ length ys → Octets xs → Octets ys → polynomial (sums xs ys) ≡ polynomial xs ⊕ polynomial ys
 polynomial-sums [] [] e o p = refl
@@ -126,16 +131,28 @@ blocks-append (suc k) xs ys e =
     ∙ ap (λ (bs : List ℕ). polynomial (take 16 xs) ∷ bs) (blocks-append k (drop 16 xs) ys rest)
     ∙ ap (λ (bs : List ℕ). bs ++ blocks ys) (sym (blocks_step xs (omega arith)))
 
--- as `as_chunks` gives them, and what is left
-pub blocks_chunks : (k : ℕ) (xs : List ℕ) → k * 16 ≤ length xs → blocks xs ≡ map polynomial (first_chunks 16 k xs) ++ blocks (drop (k * 16) xs)
-blocks_chunks zero xs h = refl
-blocks_chunks (suc k) xs h =
-    let n : suc k * 16 ≡ 16 + k * 16 = omega arith in
-    let rest : k * 16 ≤ length (drop 16 xs) = simp length-drop (omega arith) in
-    blocks_step xs (omega arith)
-    ∙ ap (λ (bs : List ℕ). polynomial (take 16 xs) ∷ bs)
-    (blocks_chunks k (drop 16 xs) rest
-    ∙ ap (λ (ys : List ℕ). map polynomial (first_chunks 16 k (drop 16 xs)) ++ blocks ys) (drop-drop (k * 16) 16 xs ∙ ap (λ (m : ℕ). drop m xs) (sym n)))
+-- ---- the blocks of a bit string
+
+-- the next block of a bit string, and what it leaves
+pub blocks_next : (n : ℕ) (xs : List ℕ) → 0 < length xs → blocks (cleared n xs) ≡ polynomial (cleared n (take 16 xs)) ∷ blocks (cleared (n - 128) (drop 16 xs))
+blocks_next n xs h =
+    blocks_step (cleared n xs) (simp length-cleared h)
+    ∙ ap₂ (λ (front back : List ℕ). polynomial front ∷ blocks back) (take-cleared 16 n xs) (drop-cleared 16 n xs)
+
+-- the first k of the m chunks that `as_chunks` gives, and what they leave
+pub blocks_chunks : (k m n : ℕ) (xs : List ℕ) → k ≤ m → m * 16 ≤ length xs → k * 128 ≤ n → blocks (cleared n xs) ≡ map polynomial (take k (first_chunks 16 m xs)) ++ blocks (cleared (n - k * 128) (drop (k * 16) xs))
+blocks_chunks zero m n xs l h b = let bits : n ≡ n - 0 * 128 = omega arith in ap (λ (left : ℕ). blocks (cleared left xs)) bits
+blocks_chunks (suc k) zero n xs l h b = absurd (omega arith)
+blocks_chunks (suc k) (suc m) n xs l h b =
+    let rest : m * 16 ≤ length (drop 16 xs) = simp length-drop (omega arith) in
+    let first : 8 * length (take 16 xs) ≤ n = simp length-take (omega arith) in
+    let bits : n - 128 - k * 128 ≡ n - suc k * 128 = omega arith in
+    let bytes : 16 + k * 16 ≡ suc k * 16 = omega arith in
+    blocks_next n xs (omega arith)
+    ∙ ap₂ (λ (front : List ℕ) (bs : List ℕ). polynomial front ∷ bs) (cleared_whole n (take 16 xs) first)
+    (blocks_chunks k m (n - 128) (drop 16 xs) (omega arith) rest (omega arith)
+    ∙ ap₂ (λ (left : ℕ) (back : List ℕ). map polynomial (take k (first_chunks 16 m (drop 16 xs))) ++ blocks (cleared left back))
+    bits (drop-drop (k * 16) 16 xs ∙ ap (λ (j : ℕ). drop j xs) bytes))
 
 -- ---- the blocks of a sum
 

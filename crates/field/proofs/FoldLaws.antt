@@ -1,9 +1,15 @@
 -- The fold.
-use Rattle.std.proofs.Common.{◌≡◌, ℕ, ◌+◌, ◌-◌, ◌*◌, ◌/◌, ◌%◌, ◌^◌, ◌<◌, ◌≤◌, min, List, [], ◌∷◌, ◌++◌, map, length, get_or, take, drop, sym, refl, ap, ◌∙◌, ap₂, ⊎_elim, append-nil, add-one, arith, length-drop, length-take, drop-cons}
+use Rattle.std.proofs.Common.{◌≡◌, ℕ, ◌+◌, ◌-◌, ◌*◌, ◌/◌, ◌%◌, ◌^◌, ◌<◌, ◌≤◌, min, List, [], ◌∷◌, ◌++◌, map, length, get_or, take, drop, sym, refl, Option, ap, ◌∙◌, ap₂, ⊎_elim, append-nil, add-one, arith, length-drop, length-take, drop-cons}
 use Rattle.std.proofs.lemmas.List.{drop_all, nil_from_length, take_all}
 use Rattle.std.proofs.lemmas.Bool.{cases_lt}
 use Rattle.std.proofs.Math.Nat.{min_comm}
 use Rattle.std.specs.Int.Bits.{xor_assoc, xor_zero_r}
+use Rattle.std.proofs.lemmas.Fn.{fold_over}
+use Rattle.std.proofs.lemmas.Iterator.{YieldsList}
+use Rattle.std.specs.Fn.{Called}
+use Rattle.std.specs.Iterator.{FoldsItems}
+use denote.Param.Members.{Mut}
+use Rattle.field.specs.declared.blocks.Block.{Block}
 use Rattle.units.specs.Spare.{cleared}
 use Rattle.units.specs.Sums.{◌⊕◌, sums}
 use Rattle.units.proofs.SpareLaws.{cleared-append, cleared_split, cleared-sums, cleared_whole, drop-cleared, length-cleared, Octets-cleared, take-cleared}
@@ -21,6 +27,18 @@ pub folded-append : (h v : ℕ) (bs cs : List ℕ) → folded h v (bs ++ cs) ≡
 unfolding folded
 folded-append h v [] cs = refl
 folded-append h v (b ∷ bs) cs = folded-append h (pdot (v ⊕ b) h) bs cs
+
+pub folded-push : (h v : ℕ) (bs : List ℕ) (b : ℕ) → folded h v (bs ++ (b ∷ [])) ≡ pdot (folded h v bs ⊕ b) h
+unfolding folded
+folded-push h v bs b = folded-append h v bs (b ∷ [])
+
+-- an iterator's `fold`, where each call of the closure adds a block and multiplies by h
+pub folded_from_fold : {S F : Type 0} {steps : S → Option Block → S → Type 0} {s : S} {f : F} (g : Mut F (Block × (Block × Unit {0})) Block) (h : ℕ) (v r : Block) (bs : List ℕ) → FoldsItems steps g s f v r → YieldsList steps (λ b. b.0) s bs → ((a b w : Block) (f' : F) → Called g f (a, (b, tt)) w f' → (w.0 ≡ pdot (a.0 ⊕ b.0) h) × (f' ≡ f)) → r.0 ≡ folded h v.0 bs
+unfolding folded
+folded_from_fold {steps = steps} {s = s} {f = f} g h v r bs ran all step =
+    fold_over steps (λ b. b.0) g (λ cs a. a.0 ≡ folded h v.0 cs) f
+    (λ cs a b w f' e k. let called = step a b w f' k in (called.0 ∙ ap (λ (u : ℕ). pdot (u ⊕ b.0) h) e ∙ sym (folded-push h v.0 cs b.0), called.1))
+    s bs v r all.runs refl ran
 
 folded-sums : (h v w : ℕ) (bs cs : List ℕ) → length bs ≡ length cs → folded h (v ⊕ w) (sums bs cs) ≡ folded h v bs ⊕ folded h w cs
 unfolding folded
@@ -40,75 +58,8 @@ folded_valued h v (b ∷ bs) k =
     ∙ ap (λ (x : ℕ). x ⊕ value_at h bs) (pdot_assoc (v ⊕ b) h p ∙ pdot-xor_l v b (pdot h p))
     ∙ xor_assoc (pdot v (pdot h p)) (pdot b (pdot h p)) (value_at h bs)
 
--- ---- the loop over whole blocks
-
-pub folded_more : (h v i : ℕ) (bss : List (List ℕ)) (tail : List ℕ) → i < length bss → folded h v (map polynomial (drop i bss) ++ tail) ≡ folded h (pdot (v ⊕ polynomial (get_or bss i [])) h) (map polynomial (drop (i + 1) bss) ++ tail)
-unfolding folded
-folded_more h v i bss tail l =
-    ap (λ (bs : List (List ℕ)). folded h v (map polynomial bs ++ tail)) (drop-cons bss i [] l)
-    ∙ ap (λ (n : ℕ). folded h (pdot (v ⊕ polynomial (get_or bss i [])) h) (map polynomial (drop n bss) ++ tail)) (sym (add-one i))
-
-pub folded_past : (h v i : ℕ) (bss : List (List ℕ)) (tail : List ℕ) → length bss ≤ i → folded h v (map polynomial (drop i bss) ++ tail) ≡ folded h v tail
-folded_past h v i bss tail l = ap (λ (bs : List (List ℕ)). folded h v (map polynomial bs ++ tail)) (drop_all i bss l)
-
--- ---- the blocks of a byte string
-
-pub folded_none : (h v : ℕ) (xs : List ℕ) → length xs ≡ 0 → folded h v (blocks xs) ≡ v
-unfolding folded
-folded_none h v xs e = ap (λ (l : List ℕ). folded h v (blocks l)) (nil_from_length xs e) ∙ ap (folded h v) blocks_none
-
-pub folded_step : (h v : ℕ) (xs : List ℕ) → 0 < length xs → folded h v (blocks xs) ≡ folded h (pdot (v ⊕ polynomial (take 16 xs)) h) (blocks (drop 16 xs))
-unfolding folded
-folded_step h v xs l = ap (folded h v) (blocks_step xs l)
-
-pub folded_last : (h v : ℕ) (xs : List ℕ) → 0 < length xs → length xs ≤ 16 → folded h v (blocks xs) ≡ pdot (v ⊕ polynomial xs) h
-folded_last h v xs l k =
-    folded_step h v xs l
-    ∙ folded_none h (pdot (v ⊕ polynomial (take 16 xs)) h) (drop 16 xs) (simp length-drop (omega arith))
-    ∙ ap (λ (ys : List ℕ). pdot (v ⊕ polynomial ys) h) (take_all 16 xs k)
-
 folded-blocks : (k h v : ℕ) (xs ys : List ℕ) → length xs ≡ 16 * k → folded h v (blocks (xs ++ ys)) ≡ folded h (folded h v (blocks xs)) (blocks ys)
 folded-blocks k h v xs ys e = ap (folded h v) (blocks-append k xs ys e) ∙ folded-append h v (blocks xs) (blocks ys)
-
--- ---- so many bits
-
--- nothing is left to fold
-pub fold_none : (h v n : ℕ) (xs : List ℕ) → length xs ≡ 0 → fold h v n xs ≡ v
-unfolding fold
-fold_none h v n xs e = folded_none h v (cleared n xs) (length-cleared n xs ∙ e)
-
--- the next block of what is left, perhaps a short one
-pub fold_step : (h v n : ℕ) (xs : List ℕ) → 0 < length xs → fold h v n xs ≡ fold h (pdot (v ⊕ polynomial (cleared n (take (min (length xs) 16) xs))) h) (n - 128) (drop (min (length xs) 16) xs)
-unfolding fold
-fold_step h v n xs l =
-    let some : 0 < length (cleared n xs) = simp length-cleared l in
-    folded_step h v (cleared n xs) some
-    ∙ ap₂ (λ (front back : List ℕ). folded h (pdot (v ⊕ polynomial front) h) (blocks back))
-    (take-cleared 16 n xs ∙ ap (cleared n) (sym (take_least xs 16)))
-    (drop-cleared 16 n xs ∙ ap (cleared (n - 128)) (sym (drop_least xs 16)))
-
--- whole blocks first, then the bits that are left
-pub fold_split : (h v n end : ℕ) (xs : List ℕ) → end ≡ min (n / 128 * 16) (length xs) → fold h v n xs ≡ fold h (folded h v (blocks (take end xs))) (n % 128) (drop end xs)
-unfolding fold
-fold_split h v n end xs e =
-    let k = n / 128 in
-    let bits : n - 8 * (k * 16) ≡ n % 128 = omega arith in
-    let parts : cleared n xs ≡ take (k * 16) xs ++ cleared (n % 128) (drop (k * 16) xs) =
-    cleared_split n (k * 16) xs (omega arith) ∙ ap (λ (m : ℕ). take (k * 16) xs ++ cleared m (drop (k * 16) xs)) bits
-    in
-    let least : end ≡ min (length xs) (k * 16) = e ∙ min_comm (k * 16) (length xs) in
-    ap (λ (l : List ℕ). folded h v (blocks l)) parts
-    ∙ ⊎_elim
-    (λ (l : k * 16 < length xs). folded-blocks k h v (take (k * 16) xs) (cleared (n % 128) (drop (k * 16) xs)) (length-take (k * 16) xs ∙ omega arith))
-    (λ (l : length xs ≤ k * 16).
-    let none : cleared (n % 128) (drop (k * 16) xs) ≡ [] = ap (cleared (n % 128)) (drop_all (k * 16) xs l) in
-    ap (λ (back : List ℕ). folded h v (blocks (take (k * 16) xs ++ back))) none
-    ∙ ap (λ (front : List ℕ). folded h v (blocks front)) (append-nil (take (k * 16) xs))
-    ∙ sym (ap (λ (back : List ℕ). folded h (folded h v (blocks (take (k * 16) xs))) (blocks back)) none ∙ folded_none h _ [] refl))
-    (cases_lt (k * 16) (length xs))
-    ∙ sym (ap₂ (λ (front back : List ℕ). folded h (folded h v (blocks front)) (blocks (cleared (n % 128) back)))
-    (ap (λ (m : ℕ). take m xs) least ∙ take_least xs (k * 16))
-    (ap (λ (m : ℕ). drop m xs) least ∙ drop_least xs (k * 16)))
 
 pub fold_stands : FoldStands
 unfolding fold

@@ -1,6 +1,6 @@
 //! Blocks. A block is sixteen bytes, and stands for a polynomial over bits: the low bit of byte 0 is the coefficient of
 //! x^0, the high bit of byte 15 that of x^127.
-ghost use Rattle.std.specs.Prelude.{◌≡◌, ◌≤◌, length, bit_xor};
+ghost use Rattle.std.specs.Prelude.{◌≡◌, bit_xor};
 ghost use Rattle.polynomials.specs.Field.{pdot};
 ghost use Rattle.field.specs.Blocks.{block_bytes, polynomial};
 
@@ -19,16 +19,6 @@ impl Block {
         ensures { result.0 ≡ polynomial bytes.now }
     {
         Block(u128::from_le_bytes(*bytes))
-    }
-
-    /// The block of at most sixteen bytes, filled with zero bytes.
-    pub(crate) fn filled(bytes: &[u8]) -> Block
-        requires { length bytes.now ≤ 16 }
-        ensures { result.0 ≡ polynomial bytes.now }
-    {
-        let mut full = [0u8; 16];
-        full[0..bytes.len()].copy_from_slice(bytes);
-        Block::from_bytes(&full)
     }
 
     /// The sixteen bytes of the block.

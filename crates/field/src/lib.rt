@@ -5,6 +5,7 @@
 
 pub mod blocks;
 pub mod folds;
+mod iter;
 pub mod known;
 pub mod tags;
 
