@@ -2,11 +2,11 @@
 use Rattle.std.proofs.Common.{◌≡◌, ℕ, zero, suc, ◌+◌, ◌-◌, ◌*◌, ◌/◌, ◌%◌, ◌^◌, ◌<◌, ◌≤◌, List, [], ◌∷◌, ◌++◌, map, length, get_or, take, drop, replicate, sym, refl, ap, ◌∙◌, ap₂, le_refl, le_of_suc-le-suc, not-suc-le-zero, div-mul-le_self, mul_comm, add_comm, pow-suc, arith, lit<, length-append, length-drop, length-take, drop-drop, bit_xor}
 use Rattle.std.specs.Simd.{first_chunks}
 use Rattle.std.proofs.Math.Decide.{le_ind}
-use Rattle.std.proofs.Math.Nat.{mod-one}
+use Rattle.std.proofs.Math.Nat.{min_comm, mod-one}
 use Rattle.std.proofs.Math.Arith.{mod-mul}
 use Rattle.std.proofs.lemmas.Nat.{xor_block, xor_mod, xor_shr}
 use Rattle.std.specs.Simd.Lanes.{digits_l}
-use Rattle.std.proofs.lemmas.List.{drop-append-le, take-append-le}
+use Rattle.std.proofs.lemmas.List.{drop_min, nil_from_length, take_min, drop-append-le, take-append-le}
 use Rattle.units.specs.Strings.{Octets}
 use Rattle.units.specs.Sums.{◌⊕◌, sums}
 use Rattle.units.specs.Spare.{cleared, high}
@@ -39,20 +39,22 @@ high-le : (n x : ℕ) → high n x ≤ x
 unfolding high
 high-le n x = div-mul-le_self x (2 ^ (8 - n))
 
-pub polynomial-zeros : (j n : ℕ) → polynomial (drop j (replicate n 0)) ≡ 0
-polynomial-zeros zero zero = refl
-polynomial-zeros zero (suc n) = omega (arith, polynomial-zeros zero n)
-polynomial-zeros (suc j) zero = refl
-polynomial-zeros (suc j) (suc n) = polynomial-zeros j n
-
--- bytes filled with zero bytes, cleared after it
-pub polynomial-filled : (n : ℕ) (xs ys : List ℕ) → polynomial ys ≡ 0 → polynomial (cleared n (xs ++ ys)) ≡ polynomial (cleared n xs)
-polynomial-filled n [] [] h = refl
-polynomial-filled n [] (y ∷ ys) h =
-    let rest = polynomial-filled (n - 8) [] ys (omega arith) in
+polynomial-append-zero : (n : ℕ) (xs ys : List ℕ) → polynomial ys ≡ 0 → polynomial (cleared n (xs ++ ys)) ≡ polynomial (cleared n xs)
+polynomial-append-zero n [] [] h = refl
+polynomial-append-zero n [] (y ∷ ys) h =
+    let rest = polynomial-append-zero (n - 8) [] ys (omega arith) in
     let byte = high-le n y in
     omega arith
-polynomial-filled n (x ∷ xs) ys h = ap (λ (p : ℕ). high n x + 256 * p) (polynomial-filled (n - 8) xs ys h)
+polynomial-append-zero n (x ∷ xs) ys h = ap (λ (p : ℕ). high n x + 256 * p) (polynomial-append-zero (n - 8) xs ys h)
+
+polynomial-drop-zero : (j : ℕ) (ys : List ℕ) → polynomial ys ≡ 0 → polynomial (drop j ys) ≡ 0
+polynomial-drop-zero zero ys h = h
+polynomial-drop-zero (suc j) [] h = refl
+polynomial-drop-zero (suc j) (y ∷ ys) h = polynomial-drop-zero j ys (omega arith)
+
+-- bytes written over the first of a block of zeros, cleared after it
+pub polynomial_filled : (n j : ℕ) (xs : List ℕ) → polynomial (cleared n (xs ++ drop j (replicate 16 0))) ≡ polynomial (cleared n xs)
+polynomial_filled n j xs = polynomial-append-zero n xs (drop j (replicate 16 0)) (polynomial-drop-zero j (replicate 16 0) refl)
 
 polynomial-sums : (xs ys : List ℕ) → length xs ≡ length ys → Octets xs → Octets ys → polynomial (sums xs ys) ≡ polynomial xs ⊕ polynomial ys
 polynomial-sums [] [] e o p = refl
@@ -108,11 +110,11 @@ enough : (n : ℕ) (xs : List ℕ) → length xs ≤ n → blocks_by n xs ≡ bl
 unfolding blocks
 enough n xs h = le_ind (λ (m : ℕ). blocks_by m xs ≡ blocks_by (length xs) xs) refl (λ m k e. more m xs k ∙ e) n h
 
-pub blocks_none : blocks [] ≡ []
+blocks_none : blocks [] ≡ []
 unfolding blocks blocks_by
 blocks_none = refl
 
-pub blocks_step : (xs : List ℕ) → 0 < length xs → blocks xs ≡ polynomial (take 16 xs) ∷ blocks (drop 16 xs)
+blocks_step : (xs : List ℕ) → 0 < length xs → blocks xs ≡ polynomial (take 16 xs) ∷ blocks (drop 16 xs)
 unfolding blocks blocks_by
 blocks_step [] h = absurd (not-suc-le-zero h)
 blocks_step (x ∷ xs) h =
@@ -132,6 +134,10 @@ blocks-append (suc k) xs ys e =
     ∙ ap (λ (bs : List ℕ). bs ++ blocks ys) (sym (blocks_step xs (omega arith)))
 
 -- ---- the blocks of a bit string
+
+-- nothing is left
+pub blocks_end : (n : ℕ) (xs : List ℕ) → length xs ≡ 0 → blocks (cleared n xs) ≡ []
+blocks_end n xs h = ap (λ (ys : List ℕ). blocks (cleared n ys)) (nil_from_length xs h) ∙ blocks_none
 
 -- the next block of a bit string, and what it leaves
 pub blocks_next : (n : ℕ) (xs : List ℕ) → 0 < length xs → blocks (cleared n xs) ≡ polynomial (cleared n (take 16 xs)) ∷ blocks (cleared (n - 128) (drop 16 xs))
@@ -153,6 +159,9 @@ blocks_chunks (suc k) (suc m) n xs l h b =
     (blocks_chunks k m (n - 128) (drop 16 xs) (omega arith) rest (omega arith)
     ∙ ap₂ (λ (left : ℕ) (back : List ℕ). map polynomial (take k (first_chunks 16 m (drop 16 xs))) ++ blocks (cleared left back))
     bits (drop-drop (k * 16) 16 xs ∙ ap (λ (j : ℕ). drop j xs) bytes))
+
+-- what the next step of `Blocks` gives and leaves
+pub ruleset next_block = (blocks_end, blocks_next, take_min, drop_min, min_comm)
 
 -- ---- the blocks of a sum
 

@@ -1,8 +1,5 @@
 -- The fold.
-use Rattle.std.proofs.Common.{◌≡◌, ℕ, ◌+◌, ◌-◌, ◌*◌, ◌/◌, ◌%◌, ◌^◌, ◌<◌, ◌≤◌, min, List, [], ◌∷◌, ◌++◌, map, length, get_or, take, drop, sym, refl, Option, ap, ◌∙◌, ap₂, ⊎_elim, append-nil, add-one, arith, length-drop, length-take, drop-cons}
-use Rattle.std.proofs.lemmas.List.{drop_all, nil_from_length, take_all}
-use Rattle.std.proofs.lemmas.Bool.{cases_lt}
-use Rattle.std.proofs.Math.Nat.{min_comm}
+use Rattle.std.proofs.Common.{◌≡◌, ℕ, ◌+◌, ◌*◌, ◌^◌, ◌<◌, List, [], ◌∷◌, ◌++◌, length, sym, refl, Option, ap, ◌∙◌, arith}
 use Rattle.std.specs.Int.Bits.{xor_assoc, xor_zero_r}
 use Rattle.std.proofs.lemmas.Fn.{fold_over}
 use Rattle.std.proofs.lemmas.Iterator.{YieldsList}
@@ -12,23 +9,22 @@ use denote.Param.Members.{Mut}
 use Rattle.field.specs.declared.blocks.Block.{Block}
 use Rattle.units.specs.Spare.{cleared}
 use Rattle.units.specs.Sums.{◌⊕◌, sums}
-use Rattle.units.proofs.SpareLaws.{cleared-append, cleared_split, cleared-sums, cleared_whole, drop-cleared, length-cleared, Octets-cleared, take-cleared}
-use Rattle.units.proofs.StringLaws.{drop_least, take_least}
+use Rattle.units.proofs.SpareLaws.{cleared-append, cleared-sums, cleared_whole, length-cleared, Octets-cleared}
 use Rattle.units.proofs.SumLaws.{xor_four}
 use Rattle.polynomials.specs.Field.{one, pdot}
 use Rattle.polynomials.proofs.FieldLaws.{pdot_assoc, pdot_lt, pdot_one, pdot-xor_l}
-use Rattle.field.specs.Blocks.{blocks, polynomial}
+use Rattle.field.specs.Blocks.{blocks}
 use Rattle.field.specs.Folds.{FoldStands, fold, folded, power, value_at}
-use Rattle.field.proofs.BlockLaws.{blocks-append, blocks_none, blocks_step, blocks-sums, length-blocks}
+use Rattle.field.proofs.BlockLaws.{blocks-append, blocks-sums, length-blocks}
 
 -- ---- a list of blocks
 
-pub folded-append : (h v : ℕ) (bs cs : List ℕ) → folded h v (bs ++ cs) ≡ folded h (folded h v bs) cs
+folded-append : (h v : ℕ) (bs cs : List ℕ) → folded h v (bs ++ cs) ≡ folded h (folded h v bs) cs
 unfolding folded
 folded-append h v [] cs = refl
 folded-append h v (b ∷ bs) cs = folded-append h (pdot (v ⊕ b) h) bs cs
 
-pub folded-push : (h v : ℕ) (bs : List ℕ) (b : ℕ) → folded h v (bs ++ (b ∷ [])) ≡ pdot (folded h v bs ⊕ b) h
+folded-push : (h v : ℕ) (bs : List ℕ) (b : ℕ) → folded h v (bs ++ (b ∷ [])) ≡ pdot (folded h v bs ⊕ b) h
 unfolding folded
 folded-push h v bs b = folded-append h v bs (b ∷ [])
 

@@ -1,9 +1,9 @@
 -- The tag.
-use Rattle.std.proofs.Common.{◌≡◌, ℕ, min, List, ◌++◌, length, take, drop, sym, ap, ◌∙◌, ap₂}
+use Rattle.std.proofs.Common.{◌≡◌, ℕ, min, List, ◌++◌, length, take, drop, sym, ap, ◌∙◌, ap₂, arith}
 use Rattle.std.proofs.Math.Nat.{min_comm}
 use Rattle.std.specs.Simd.Lanes.{digits_l}
 use Rattle.units.specs.Sums.{◌⊕◌, sums}
-use Rattle.units.proofs.StringLaws.{drop_least, take_least}
+use Rattle.std.proofs.lemmas.List.{drop_min, take_min}
 use Rattle.units.proofs.SumLaws.{take-sums, terms}
 use Rattle.polynomials.specs.Field.{pdot}
 use Rattle.polynomials.proofs.FieldLaws.{pdot-xor_l}
@@ -38,11 +38,11 @@ tag_stands h q p t aad_bits bits a a' c c' la lc oa oa' oc oc' =
     ∙ ap (λ (u : ℕ). pdot u q) (both_added x y l ∙ folds)))
 
 -- as many bytes as there is room for, at most sixteen
-pub tag-written : (h q p aad_bits bits size : ℕ) (aad ciphertext out front : List ℕ) → size ≡ min (length out) 16 → front ≡ take size (block_bytes (whole_tag h q p aad_bits aad bits ciphertext)) → front ++ drop size out ≡ tag h q p (length out) aad_bits aad bits ciphertext ++ drop 16 out
+pub tag_written : (size h q p aad_bits bits : ℕ) (aad ciphertext out : List ℕ) → size ≡ min (length out) 16 → take size (block_bytes (whole_tag h q p aad_bits aad bits ciphertext)) ++ drop size out ≡ tag h q p (length out) aad_bits aad bits ciphertext ++ drop 16 out
 unfolding tag block_bytes
-tag-written h q p aad_bits bits size aad ciphertext out front e f =
+tag_written size h q p aad_bits bits aad ciphertext out e =
     let whole = digits_l 256 16 (whole_tag h q p aad_bits aad bits ciphertext) in
-    let size_is : size ≡ min (length whole) (length out) = e ∙ min_comm (length out) 16 ∙ ap (λ (n : ℕ). min n (length out)) (sym (length_digits 16 (whole_tag h q p aad_bits aad bits ciphertext))) in
+    let size_is : size ≡ min (length out) (length whole) = omega (arith, length_digits 16 (whole_tag h q p aad_bits aad bits ciphertext)) in
     ap₂ (λ (before after : List ℕ). before ++ after)
-    (f ∙ ap (λ (n : ℕ). take n whole) size_is ∙ take_least whole (length out))
-    (ap (λ (n : ℕ). drop n out) e ∙ drop_least out 16)
+    (ap (λ (n : ℕ). take n whole) size_is ∙ take_min (length out) whole)
+    (ap (λ (n : ℕ). drop n out) (e ∙ min_comm (length out) 16) ∙ drop_min 16 out)

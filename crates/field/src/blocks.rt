@@ -15,6 +15,7 @@ impl Block {
     pub const ZERO: Block = Block(0);
 
     /// The block of sixteen bytes.
+    #[tactic(auto, using(crate::proofs::BlockLaws::polynomial_sixteen))]
     pub fn from_bytes(bytes: &[u8; 16]) -> Block
         ensures { result.0 ≡ polynomial bytes.now }
     {

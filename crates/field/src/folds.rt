@@ -15,6 +15,8 @@ pub fn fold(h: Block, v: Block, input: BitString<'_>) -> Block
     let (whole, left) = input.bits.split();
     let (chunks, _) = input.bytes.as_chunks::<16>();
     let full = chunks.len().min(whole as usize);
+    // Whole blocks have no spare bits. The rest is cleared block by block; where the bytes are fewer than the bits fill, it
+    // has the bits of whole blocks as well.
     let rest = BitString {
         bits: Bits(left.0 + 128 * (whole - full as u32)),
         bytes: &input.bytes[full * 16..],

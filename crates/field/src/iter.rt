@@ -19,6 +19,7 @@ impl Iterator for Blocks<'_> {
 
     ghost remaining = { item_count (λ s. blocks (cleared s.0.bits.0 s.0.bytes.now)) };
 
+    #[tactic(auto, using(crate::proofs::BlockLaws::next_block))]
     fn next(&mut self) -> Option<Block> {
         let BitString { bits, bytes } = self.0;
         if bytes.is_empty() {
@@ -34,6 +35,7 @@ impl Iterator for Blocks<'_> {
 }
 
 /// The block of at most sixteen bytes, with the spare bits cleared.
+#[tactic(auto, using(crate::proofs::BlockLaws::polynomial_filled))]
 fn cleared_block(bits: Bits, bytes: &[u8]) -> Block
     requires { length bytes.now ≤ 16 }
     ensures { result.0 ≡ polynomial (cleared bits.0 bytes.now) }
