@@ -5,28 +5,33 @@ use std::collections::BTreeMap;
 use std::fmt;
 use units::{Reason, Refusal};
 
-/// The commands by their words, how they ended, and the lines that could not be read.
+/// The commands by kind, how they ended, and the lines that could not be read.
 #[derive(Drop)]
 pub struct Account {
-    by_word: BTreeMap<&'static str, u64>,
-    by_number: BTreeMap<u8, Tally>,
+    by_command: BTreeMap<Command, u64>,
+    by_reason: BTreeMap<Numbered, u64>,
     accepted: u64,
     refused: u64,
     unreadable: u64,
 }
 
-/// How many commands were refused for one reason.
-#[derive(Clone, Copy)]
-struct Tally {
-    reason: Reason,
-    count: u64,
+/// A reason with its number before it.
+#[derive(Clone, Copy, PartialEq, Eq, PartialOrd, Ord)]
+struct Numbered(Reason);
+
+impl fmt::Display for Numbered {
+    fn fmt<W: fmt::Write>(&self, f: &mut fmt::Formatter<W>) -> fmt::Result {
+        let reason = self.0;
+        let number = reason.number();
+        write!(f, "{number} {reason}")
+    }
 }
 
 impl Account {
     pub fn new(heap: Global) -> Account {
         Account {
-            by_word: BTreeMap::new(heap),
-            by_number: BTreeMap::new(heap),
+            by_command: BTreeMap::new(heap),
+            by_reason: BTreeMap::new(heap),
             accepted: 0,
             refused: 0,
             unreadable: 0,
@@ -35,17 +40,12 @@ impl Account {
 
     /// Enters a command and, if it was refused, why.
     pub fn enter(&mut self, command: Command, refusal: Option<Refusal>) -> Result<(), AllocError> {
-        let count = self.by_word.entry(command.word())?.or_insert(0);
-        *count = count.saturating_add(1);
+        count(self.by_command.entry(command)?.or_insert(0));
         match refusal {
-            None => self.accepted = self.accepted.saturating_add(1),
+            None => count(&mut self.accepted),
             Some(Refusal { reason, .. }) => {
-                let tally = self
-                    .by_number
-                    .entry(reason.number())?
-                    .or_insert(Tally { reason, count: 0 });
-                tally.count = tally.count.saturating_add(1);
-                self.refused = self.refused.saturating_add(1);
+                count(self.by_reason.entry(Numbered(reason))?.or_insert(0));
+                count(&mut self.refused);
             }
         }
         Ok(())
@@ -53,8 +53,13 @@ impl Account {
 
     /// Enters a line that could not be read.
     pub fn unreadable(&mut self) {
-        self.unreadable = self.unreadable.saturating_add(1);
+        count(&mut self.unreadable);
     }
+}
+
+/// Counts one more. A full counter stays where it is.
+fn count(counter: &mut u64) {
+    *counter = counter.saturating_add(1);
 }
 
 impl fmt::Display for Account {
@@ -64,30 +69,20 @@ impl fmt::Display for Account {
         let commands = accepted.saturating_add(refused);
         let unreadable = self.unreadable;
         write!(f, "account\n  commands: {commands}\n")?;
-        write_words(f, &self.by_word)?;
+        write_counts(f, &self.by_command)?;
         write!(f, "  accepted: {accepted}\n  refused: {refused}\n")?;
-        write_reasons(f, &self.by_number)?;
+        write_counts(f, &self.by_reason)?;
         write!(f, "  lines not read: {unreadable}")
     }
 }
 
-fn write_words<W: fmt::Write>(
+/// A line for each kind that was counted.
+fn write_counts<K: Ord + fmt::Display, W: fmt::Write>(
     f: &mut fmt::Formatter<W>,
-    words: &BTreeMap<&'static str, u64>,
+    counts: &BTreeMap<K, u64>,
 ) -> fmt::Result {
-    for (word, count) in words.iter() {
-        writeln!(f, "    {word}: {count}")?;
-    }
-    Ok(())
-}
-
-fn write_reasons<W: fmt::Write>(
-    f: &mut fmt::Formatter<W>,
-    tallies: &BTreeMap<u8, Tally>,
-) -> fmt::Result {
-    for (number, tally) in tallies.iter() {
-        let Tally { reason, count } = *tally;
-        writeln!(f, "    {number} {reason}: {count}")?;
+    for (kind, count) in counts.iter() {
+        writeln!(f, "    {kind}: {count}")?;
     }
     Ok(())
 }

@@ -1,50 +1,51 @@
 //! The commands: which word names which, and what each answers.
 use super::answers::Answer;
-use super::fields::{Fields, Unreadable};
+use super::errors::Unreadable;
+use super::fields::Fields;
 use super::listings::Listing;
 use std::alloc::Global;
+use std::fmt;
 
-#[derive(Clone, Copy)]
+#[derive(Clone, Copy, PartialEq, Eq, PartialOrd, Ord)]
 pub enum Command {
     Help,
     Recording,
 }
 
+impl<'a> TryFrom<&'a str> for Command {
+    type Error = Unreadable<'a>;
+
+    fn try_from(word: &'a str) -> Result<Command, Unreadable<'a>> {
+        match word {
+            "help" => Ok(Command::Help),
+            "recording" => Ok(Command::Recording),
+            _ => Err(Unreadable::UnknownCommand(word)),
+        }
+    }
+}
+
+/// The command by its word.
+impl fmt::Display for Command {
+    fn fmt<W: fmt::Write>(&self, f: &mut fmt::Formatter<W>) -> fmt::Result {
+        f.write_str(match self {
+            Command::Help => "help",
+            Command::Recording => "recording",
+        })
+    }
+}
+
 impl Command {
     /// Reads a line and answers its command. An empty line, and one that begins with `#`, holds none.
     pub fn read(heap: Global, line: &[u8]) -> Result<Option<(Command, Answer)>, Unreadable<'_>> {
-        let Ok(text) = std::str::from_utf8(line) else {
-            return Err(Unreadable::NoText);
-        };
-        let mut words = text.split_whitespace();
-        let Some(word) = words.next() else {
+        let mut words = std::str::from_utf8(line)?.split_whitespace();
+        let Some(word) = words.next().filter(|word| !word.starts_with('#')) else {
             return Ok(None);
         };
-        if word.starts_with('#') {
-            return Ok(None);
-        }
-        let Some(command) = Command::named(word) else {
-            return Err(Unreadable::UnknownCommand(word));
-        };
+        let command = Command::try_from(word)?;
         let mut fields = Fields::read(heap, words)?;
         let answer = command.answer(&mut fields)?;
         fields.end()?;
         Ok(Some((command, answer)))
-    }
-
-    fn named(word: &str) -> Option<Command> {
-        match word {
-            "help" => Some(Command::Help),
-            "recording" => Some(Command::Recording),
-            _ => None,
-        }
-    }
-
-    pub fn word(self) -> &'static str {
-        match self {
-            Command::Help => "help",
-            Command::Recording => "recording",
-        }
     }
 
     /// Takes what the command needs from its fields, and answers.

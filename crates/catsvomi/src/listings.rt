@@ -57,12 +57,10 @@ fn write_record<W: fmt::Write>(f: &mut fmt::Formatter<W>, record: Record<'_>) ->
     }
 }
 
-/// The bytes as text, if there are any and each is a printable character of ASCII.
+/// The bytes as text, if each is a printable character of ASCII.
 fn printable(bytes: &[u8]) -> Option<&str> {
-    for byte in bytes {
-        if !matches!(*byte, b' '..=b'~') {
-            return None;
-        }
-    }
-    std::str::from_utf8(bytes).ok()
+    let text = std::str::from_utf8(bytes).ok()?;
+    text.bytes()
+        .all(|byte| matches!(byte, b' '..=b'~'))
+        .then_some(text)
 }

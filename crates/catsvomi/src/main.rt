@@ -5,6 +5,7 @@
 mod accounts;
 mod answers;
 mod commands;
+mod errors;
 mod fields;
 mod listings;
 
@@ -19,11 +20,9 @@ fn main(rt: HostRuntime) -> anyhow::Result<()> {
 
 fn run(rt: &HostRuntime) -> anyhow::Result<()> {
     let mut account = Account::new(rt.alloc());
-    let mut number: u64 = 0;
-    for line in BufReader::new(rt.alloc(), rt.stdin())?.split(rt.alloc(), b'\n') {
-        let line = line?;
-        number = number.saturating_add(1);
-        play(rt, &mut account, number, line.as_slice())?;
+    let lines = BufReader::new(rt.alloc(), rt.stdin())?.split(rt.alloc(), b'\n');
+    for (number, line) in (1..u64::MAX).zip(lines) {
+        play(rt, &mut account, number, line?.as_slice())?;
     }
     println!(rt; "{account}")?;
     Ok(())

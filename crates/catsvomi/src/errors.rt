@@ -1,0 +1,24 @@
+//! Why a line cannot be read, for people.
+use std::alloc::AllocError;
+use std::str::Utf8Error;
+use thiserror::Error;
+
+#[derive(Clone, Copy, Debug, Error)]
+pub enum Unreadable<'a> {
+    #[error("it is not UTF-8 text")]
+    NoText(#[from] Utf8Error),
+    #[error("unknown command '{0}'; 'help' lists the commands")]
+    UnknownCommand(&'a str),
+    #[error("'{0}' is not key=value")]
+    NoField(&'a str),
+    #[error("'{0}=' is given twice")]
+    Twice(&'a str),
+    #[error("'{0}=' is missing")]
+    Missing(&'static str),
+    #[error("'{0}=' does not belong to this command")]
+    Unexpected(&'a str),
+    #[error("'{0}=' is not hexadecimal, two digits to a byte, or - for none")]
+    NoHex(&'static str),
+    #[error("there is no memory for it")]
+    NoMemory(#[from(alloc)] AllocError),
+}
