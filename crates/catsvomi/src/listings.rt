@@ -21,13 +21,10 @@ impl Listing {
 /// The records up to the first fault, each with its offset, and then the verdict.
 impl fmt::Display for Listing {
     fn fmt<W: fmt::Write>(&self, f: &mut fmt::Formatter<W>) -> fmt::Result {
-        let mut reader = Reader::new(self.data.as_slice());
-        let mut offset = reader.offset().0;
-        while let Ok(Some(record)) = reader.next_record() {
-            write!(f, "  {offset} ")?;
+        for (offset, record) in Reader::new(self.data.as_slice()).record_indices() {
+            write!(f, "  {} ", offset.0)?;
             write_record(f, record)?;
             writeln!(f)?;
-            offset = reader.offset().0;
         }
         match self.verdict {
             Ok(()) => f.write_str("ok"),
