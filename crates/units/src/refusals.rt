@@ -2,6 +2,7 @@
 ghost use Rattle.std.specs.Prelude.{◌≡◌, Some};
 ghost use Rattle.units.specs.Refusals.{line, number, word};
 
+use std::error::Error;
 use std::fmt;
 
 /// Why a call says no. The discriminant is the number by which people and programs know the reason.
@@ -132,6 +133,8 @@ impl fmt::Display for Refusal {
     }
 }
 
+impl Error for Refusal {}
+
 /// The same, and after it the reason in words.
 impl fmt::Display for Explained {
     fn fmt<W: fmt::Write>(&self, f: &mut fmt::Formatter<W>) -> fmt::Result {
@@ -140,3 +143,5 @@ impl fmt::Display for Explained {
         write!(f, "{refusal}: {reason}")
     }
 }
+
+impl Error for Explained {}
