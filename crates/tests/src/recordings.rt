@@ -73,13 +73,13 @@ mod tests {
     #[test]
     fn cut_records(rt: HostRuntime) -> Result<(), Fail> {
         assert_eq!(rt; check(b""), Ok(()));
-        let record = keystream(rt.alloc(), 1)?;
-        for end in 1..record.len() {
-            assert_eq!(rt; check(&record.as_slice()[0..end]), fault(0), "keystream");
-        }
-        let record = remark(rt.alloc(), 2)?;
-        for end in 1..record.len() {
-            assert_eq!(rt; check(&record.as_slice()[0..end]), fault(0), "remark");
+        for (kind, record) in &[
+            ("keystream", keystream(rt.alloc(), 1)?),
+            ("remark", remark(rt.alloc(), 2)?),
+        ] {
+            for end in 1..record.len() {
+                assert_eq!(rt; check(&record.as_slice()[..end]), fault(0), "{kind}");
+            }
         }
         Ok(())
     }
