@@ -1,7 +1,7 @@
 -- The product of two words, by products of their coefficients at every fifth place.
 use Rattle.std.proofs.Common.{◌≡◌, ℕ, zero, suc, ◌+◌, ◌*◌, ◌/◌, ◌%◌, ◌^◌, ◌<◌, bit_and, sym, ◌∙◌, ap₂, lt_of_le_of_lt, add-zero, mod-lt, mod-eq_of_lt, add-one, arith, lit<, pow_pos}
 use Rattle.std.proofs.lemmas.Nat.Bits.{bit_at_and, bit_at_xor, same_from_bits}
-use Rattle.std.proofs.lemmas.Nat.{and_block, and_le_l, and_mask, shr_split}
+use Rattle.std.proofs.lemmas.Nat.{and_block, and_le_l, shr_split}
 use Rattle.std.specs.Int.Bits.{and_zero_r}
 use Rattle.units.specs.Sums.{◌⊕◌}
 use Rattle.polynomials.specs.Polynomials.{product}
@@ -26,9 +26,6 @@ wide_holes = 0x21084210842108421084210842108421
 abbrev pub covered : ℕ → ℕ
 covered zero = 0
 covered (suc j) = covered j ⊕ holes * 2 ^ j
-
-pub all-covered : (y : ℕ) → y < 2 ^ 64 → bit_and y (covered 5) ≡ y
-all-covered y h = and_mask y 65 ∙ mod-eq_of_lt (omega arith)
 
 -- `ones 13` computes to the holes, and `ones 26` to the wide ones
 pub sparse_product : (x y : ℕ) → bit_and (bit_and x holes * bit_and y holes) wide_holes ≡ product (bit_and x holes) (bit_and y holes)
