@@ -29,6 +29,7 @@ pub fn product(x: u64, y: u64) -> u128
 fn row(x: u64, y: u64) -> u128
     ensures { result ≡ product x (bit_and y holes) }
 {
+    // The factors change sides, since `product` has gone through the places of `y`, and these are those of `x`.
     over_places(y & HOLES, x, sparse)
 }
 
