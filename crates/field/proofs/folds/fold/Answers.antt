@@ -1,4 +1,4 @@
-use Rattle.std.proofs.Common.{◌-◌, ◌*◌, ◌/◌, ◌++◌, map, length, take, drop, rules, ap, ◌∙◌, arith}
+use Rattle.std.proofs.Common.{◌≡◌, ◌-◌, ◌*◌, ◌/◌, ◌++◌, map, length, take, drop, rules, ap, ◌∙◌, arith}
 use Rattle.std.proofs.lemmas.Grind.{common_steps}
 use Rattle.std.proofs.lemmas.List.{take_rest}
 use Rattle.std.proofs.lemmas.Iterator.{YieldsList-from_slice, YieldsList-from_map_by}
@@ -21,6 +21,7 @@ returns c =
     let full = c.min-full.result in
     let front = take full c.as_chunks.result.0.now in
     let back = blocks (cleared (bits - full * 128) (drop (full * 16) bytes)) in
+    let left : c.chain.result.b.0.bits.0 ≡ bits - full * 128 = ap (λ (s : Blocks). s.0.bits.0) c.chain.ensures.second ∙ omega arith in
     let folds =
     folded_from_fold _ h c.args.v c.fold.result (map polynomial front ++ back) c.fold.ensures.ran
     (YieldsList-from_chain
