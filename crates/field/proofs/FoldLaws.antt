@@ -19,7 +19,7 @@ use Rattle.field.proofs.BlockLaws.{blocks-append, blocks-sums, length-blocks}
 
 -- ---- a list of blocks
 
-folded-append : (h v : ℕ) (bs cs : List ℕ) → folded h v (bs ++ cs) ≡ folded h (folded h v bs) cs
+pub folded-append : (h v : ℕ) (bs cs : List ℕ) → folded h v (bs ++ cs) ≡ folded h (folded h v bs) cs
 unfolding folded
 folded-append h v [] cs = refl
 folded-append h v (b ∷ bs) cs = folded-append h (pdot (v ⊕ b) h) bs cs

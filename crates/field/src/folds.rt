@@ -1,6 +1,7 @@
 //! Folding data with H: each block is added to the value so far, and the sum multiplied by H.
-ghost use Rattle.std.specs.Prelude.{◌≡◌};
-ghost use Rattle.field.specs.Folds.{FoldStands, fold};
+ghost use Rattle.std.specs.Prelude.{◌≡◌, ℕ, List};
+ghost use Rattle.std.specs.Iterator.{AlwaysYields, IsFinite};
+ghost use Rattle.field.specs.Folds.{FoldStands, fold, folded};
 
 use super::blocks::{Block, pdot};
 use super::iter::Blocks;
@@ -21,9 +22,15 @@ pub fn fold(h: Block, v: Block, input: BitString<'_>) -> Block
         bits: Bits(left.0 + 128 * (whole - full as u32)),
         bytes: &input.bytes[full * 16..],
     };
-    chunks[..full]
-        .iter()
-        .map(Block::from_bytes)
-        .chain(Blocks(rest))
-        .fold(v, |v, block| pdot(v + block, h))
+    let v = fold_blocks(h, v, chunks[..full].iter().map(Block::from_bytes));
+    fold_blocks(h, v, Blocks(rest))
+}
+
+/// Folds the blocks that an iterator gives with `h`, from `v`.
+fn fold_blocks<I: Iterator<Item = Block>>(h: Block, v: Block, blocks: I) -> Block
+    requires can { I.can_next blocks }
+    requires ends { IsFinite (I.remaining blocks) }
+    ensures { (bs : List ℕ) → AlwaysYields I.next_gives (λ b. b.0) blocks bs → result.0 ≡ folded h.0 v.0 bs }
+{
+    blocks.fold(v, |v, block| pdot(v + block, h))
 }
