@@ -1,5 +1,6 @@
 //! Reading a recording record by record. Nothing is copied, and at a fault the reading stays where it is.
 ghost use Rattle.std.specs.Prelude.{◌≡◌, ◌≤◌, length};
+ghost use Rattle.units.specs.Strings.{Octets};
 ghost use Rattle.recording.specs.Reading.{Lawful, answered, fault, step, stepped};
 
 use super::records::Record;
@@ -14,6 +15,7 @@ pub struct Reader<'a> {
     bytes: &'a [u8],
     offset: usize,
     ghost within: { offset ≤ length bytes.now },
+    ghost octets: { Octets bytes.now },
 }
 
 impl<'a> Reader<'a> {
