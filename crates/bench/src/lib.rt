@@ -13,13 +13,10 @@ use units::{BitString, Bits};
 pub extern "C" fn bench_fold(h: &[u8; 16], value: &mut [u8; 16], bits: u32, bytes: &[u8])
     ensures { value.new ≡ block_bytes (fold (polynomial h.now) (polynomial value.old) bits bytes.now) }
 {
-    let folded = fold(
-        Block::from_bytes(h),
-        Block::from_bytes(value),
-        BitString {
-            bits: Bits(bits),
-            bytes,
-        },
-    );
+    let input = BitString {
+        bits: Bits(bits),
+        bytes,
+    };
+    let folded = fold(Block::from_bytes(h), Block::from_bytes(value), input);
     *value = folded.to_bytes();
 }

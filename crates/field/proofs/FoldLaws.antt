@@ -3,9 +3,8 @@ use Rattle.std.proofs.Common.{◌≡◌, ℕ, ◌+◌, ◌*◌, ◌^◌, ◌<◌
 use Rattle.std.specs.Int.Bits.{xor_assoc, xor_zero_r}
 use Rattle.std.proofs.lemmas.Fn.{fold_over}
 use Rattle.std.proofs.lemmas.Iterator.{YieldsList}
-use Rattle.std.specs.Fn.{Called}
+use Rattle.std.specs.Fn.{Called, Mut}
 use Rattle.std.specs.Iterator.{FoldsItems}
-use denote.Param.Members.{Mut}
 use Rattle.field.specs.declared.blocks.Block.{Block}
 use Rattle.units.specs.Spare.{cleared}
 use Rattle.units.specs.Sums.{◌⊕◌, sums}
