@@ -1,7 +1,6 @@
 -- Parts of byte strings, byte strings that are equal, and numbers in them.
-use Rattle.std.proofs.Common.{◌≡◌, ◌↔◌, ℕ, zero, suc, ◌+◌, ◌*◌, ◌/◌, ◌%◌, ◌<◌, ◌≤◌, min, true, eqb, List, [], ◌∷◌, ◌++◌, length, get_or, take, drop, sym, refl, ap, ◌∙◌, ap₂, ⊎_elim, arith, get_or-drop, drop-cons, get_or-append-add}
-use Rattle.std.proofs.lemmas.List.{drop_all, take_all}
-use Rattle.std.proofs.lemmas.Bool.{and_parts, cases_lt, eq-eqb, eqb-true, false≢true}
+use Rattle.std.proofs.Common.{◌≡◌, ◌↔◌, ℕ, zero, suc, ◌+◌, ◌*◌, ◌/◌, ◌%◌, ◌<◌, ◌≤◌, true, eqb, List, [], ◌∷◌, ◌++◌, length, get_or, take, drop, sym, refl, ap, ◌∙◌, ap₂, arith, get_or-drop, drop-cons, get_or-append-add}
+use Rattle.std.proofs.lemmas.Bool.{and_parts, eq-eqb, eqb-true, false≢true}
 use Rattle.std.proofs.lemmas.Nat.{le_or_l, le_or_r}
 use Rattle.std.specs.Int.Bits.{bit_or}
 use Rattle.std.specs.List.{fold}
@@ -21,21 +20,6 @@ Octets-take xs zero o k = omega arith
 Octets-take [] (suc n) o k = omega arith
 Octets-take (x ∷ xs) (suc n) o zero = o 0
 Octets-take (x ∷ xs) (suc n) o (suc k) = Octets-take xs n (λ i. o (suc i)) k
-
--- what stays the same from n on
-up_to : (f : ℕ → List ℕ) (n k : ℕ) → ((m : ℕ) → n ≤ m → f m ≡ f n) → f (min n k) ≡ f k
-up_to f n k past =
-    ⊎_elim
-    (λ (l : k < n). let e : min n k ≡ k = omega arith in ap f e)
-    (λ (l : n ≤ k). let e : min n k ≡ n = omega arith in ap f e ∙ sym (past k l))
-    (cases_lt k n)
-
--- as far as a byte string goes
-pub take_least : (xs : List ℕ) (k : ℕ) → take (min (length xs) k) xs ≡ take k xs
-take_least xs k = up_to (λ n. take n xs) (length xs) k (λ m l. take_all m xs l ∙ sym (take_all (length xs) xs (omega arith)))
-
-pub drop_least : (xs : List ℕ) (k : ℕ) → drop (min (length xs) k) xs ≡ drop k xs
-drop_least xs k = up_to (λ n. drop n xs) (length xs) k (λ m l. drop_all m xs l ∙ sym (drop_all (length xs) xs (omega arith)))
 
 pub same_refl : (xs : List ℕ) → same xs xs ≡ true
 same_refl [] = refl
