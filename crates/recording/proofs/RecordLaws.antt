@@ -7,7 +7,7 @@ use Rattle.std.proofs.lemmas.Option.{cond_some}
 use Rattle.std.specs.List.{flat_map, AllByRecursion}
 use Rattle.std.specs.Simd.{first_chunks}
 use Rattle.units.specs.Strings.{Octets, same, two, two_at}
-use Rattle.units.proofs.StringLaws.{length_two, Octets-drop, same_true, two_again, two_read}
+use Rattle.units.proofs.StringLaws.{length_two, Octets-drop, same_tells, two_again, two_read}
 use Rattle.recording.specs.Records.{Entry, keystream, remark, keystream_mark, remark_mark, written, WellFormed, Begins, Faithful, first, first_keystream, first_remark}
 
 -- ---- what the code cuts out
@@ -87,7 +87,7 @@ marked : (xs mark rest : List ℕ) (e : Entry) → Begins e rest (mark ++ drop 2
 marked xs mark rest e there m =
     record {
       formed = there.formed;
-      parts = sym (take-append-drop 2 xs) ∙ ap (λ (l : List ℕ). l ++ drop 2 xs) (same_true (take 2 xs) mark m) ∙ there.parts;
+      parts = sym (take-append-drop 2 xs) ∙ ap (λ (l : List ℕ). l ++ drop 2 xs) ((same_tells (take 2 xs) mark).0 m) ∙ there.parts;
     }
 
 pub first_there : (xs : List ℕ) (p : Entry × List ℕ) → Octets xs → first xs ≡ Some p → Begins p.0 p.1 xs

@@ -4,7 +4,7 @@ use Rattle.std.proofs.Math.Pow as pow
 use borrow.Rule.Slice.PartMut.{put_mid}
 use Rattle.std.proofs.lemmas.List.{drop_at, nil_from_length, take_at, take_more_set}
 use Rattle.std.proofs.lemmas.Bool.{cases_lt, lt-ltb, le-ltb, eq-eqb, cond_both, cond-false}
-use Rattle.std.proofs.lemmas.Bool.Decides.{nat_tests}
+use Rattle.std.proofs.lemmas.Bool.Decides.{Decides-at, nat_tests}
 use Rattle.std.specs.List.{fold}
 use Rattle.std.proofs.Math.Nat.{div-eq_of_lt}
 use Rattle.std.proofs.lemmas.Nat.Bits.{and_high_mask, ones_shr}
@@ -14,7 +14,7 @@ use Rattle.std.proofs.Math.Seq.{split_at}
 use Rattle.units.specs.Strings.{Octets, same, united}
 use Rattle.units.specs.Sums.{◌⊕◌, sums}
 use Rattle.units.proofs.SumLaws.{shl-xor}
-use Rattle.units.proofs.StringLaws.{same_refl, same_true}
+use Rattle.units.proofs.StringLaws.{same_tells}
 use Rattle.units.specs.Spare.{high, cleared, clear, bit_at}
 
 -- ---- one byte
@@ -177,7 +177,7 @@ clear_at n xs h o =
     ∙ sym (either_zero (bit_xor x (high (n % 8) x)) (united rest) ∙ ap (λ (t : Bool). eqb (bit_xor x (high (n % 8) x)) 0 && t) (union_zero 0 rest))
 
 pub clear_whole : (n : ℕ) (xs : List ℕ) → length xs ≤ n / 8 → clear n xs ≡ true
-clear_whole n xs h = ap (λ (ys : List ℕ). same ys xs) (cleared_whole n xs (omega arith)) ∙ same_refl xs
+clear_whole n xs h = ap (λ (ys : List ℕ). same ys xs) (cleared_whole n xs (omega arith)) ∙ (same_tells xs xs).1 refl
 
 -- ---- bit by bit
 
@@ -226,7 +226,7 @@ unfolding bit_at
 bit_none i = let some = pow.pow_pos (7 - i % 8) in ap (λ (k : ℕ). k % 2) (div-eq_of_lt some)
 
 -- the first n bits stay, and the others are zero
-pub bit-cleared : (n : ℕ) (xs : List ℕ) (i : ℕ) → bit_at (cleared n xs) i ≡ cond (ltb i n) (bit_at xs i) 0
+bit-cleared : (n : ℕ) (xs : List ℕ) (i : ℕ) → bit_at (cleared n xs) i ≡ cond (ltb i n) (bit_at xs i) 0
 bit-cleared n [] i = let none = bit_none i in cond_both (ltb i n) (bit_at [] i) 0 (λ (k : ℕ). bit_at [] i ≡ k) (λ e. refl) (λ e. none)
 bit-cleared n (x ∷ xs) i =
     ⊎_elim
@@ -266,11 +266,22 @@ cleared_by_bits n (x ∷ xs) h =
     (cleared_by_bits (n - 8) xs (λ i l. sym (bit_later x xs i) ∙ h (i + 8) (omega arith)))
 
 -- the test says whether each spare bit is zero
-pub clear_tells : (n : ℕ) (xs : List ℕ) → Decides (clear n xs) ((i : ℕ) → n ≤ i → bit_at xs i ≡ 0)
+clear_tells : (n : ℕ) (xs : List ℕ) → Decides (clear n xs) ((i : ℕ) → n ≤ i → bit_at xs i ≡ 0)
 clear_tells n xs = (
   λ e i l.
-      ap (λ (ys : List ℕ). bit_at ys i) (sym (same_true (cleared n xs) xs e))
+      ap (λ (ys : List ℕ). bit_at ys i) (sym ((same_tells (cleared n xs) xs).0 e))
       ∙ bit-cleared n xs i
       ∙ cond-false (ltb i n) (bit_at xs i) 0 (le-ltb i n l),
-  λ h. ap (λ (ys : List ℕ). same ys xs) (cleared_by_bits n xs h) ∙ same_refl xs,
+  λ h. ap (λ (ys : List ℕ). same ys xs) (cleared_by_bits n xs h) ∙ (same_tells xs xs).1 refl,
 )
+
+-- ---- what the two calls promise
+
+module _ (n : ℕ) (xs : List ℕ) where
+  -- clearing, from what it leaves
+  pub cleared_told : (ys : List ℕ) → ys ≡ cleared n xs → (i : ℕ) → bit_at ys i ≡ cond (ltb i n) (bit_at xs i) 0
+  cleared_told ys e i = ap (λ (zs : List ℕ). bit_at zs i) e ∙ bit-cleared n xs i
+
+  -- testing, from what it answers
+  pub clear_told : (b : Bool) → b ≡ clear n xs → Decides b ((i : ℕ) → n ≤ i → bit_at xs i ≡ 0)
+  clear_told b e = Decides-at b (clear n xs) e (clear_tells n xs)

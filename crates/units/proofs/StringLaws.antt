@@ -1,9 +1,9 @@
 -- Parts of byte strings, byte strings that are equal, and numbers in them.
-use Rattle.std.proofs.Common.{◌≡◌, ◌↔◌, ℕ, zero, suc, ◌+◌, ◌*◌, ◌/◌, ◌%◌, ◌<◌, ◌≤◌, true, eqb, List, [], ◌∷◌, ◌++◌, length, get_or, take, drop, sym, refl, ap, ◌∙◌, ap₂, arith, get_or-drop, drop-cons, get_or-append-add}
-use Rattle.std.proofs.lemmas.Bool.{and_parts, eq-eqb, eqb-true, false≢true}
+use Rattle.std.proofs.Common.{Decides, rules, ◌≡◌, ◌↔◌, ℕ, zero, suc, ◌+◌, ◌*◌, ◌/◌, ◌%◌, ◌<◌, ◌≤◌, List, [], ◌∷◌, ◌++◌, length, get_or, take, drop, sym, refl, ap, ◌∙◌, arith, get_or-drop, drop-cons, get_or-append-add}
 use Rattle.std.proofs.lemmas.Nat.{le_or_l, le_or_r}
 use Rattle.std.specs.Int.Bits.{bit_or}
 use Rattle.std.specs.List.{fold}
+use Rattle.std.proofs.lemmas.Slice.Eq.{compares_Decides}
 use Rattle.units.specs.Strings.{Octets, same, two, two_at, united}
 
 pub Octets-append_rest : (xs front rest : List ℕ) → Octets xs → xs ≡ front ++ rest → Octets rest
@@ -21,17 +21,9 @@ Octets-take [] (suc n) o k = omega arith
 Octets-take (x ∷ xs) (suc n) o zero = o 0
 Octets-take (x ∷ xs) (suc n) o (suc k) = Octets-take xs n (λ i. o (suc i)) k
 
-pub same_refl : (xs : List ℕ) → same xs xs ≡ true
-same_refl [] = refl
-same_refl (x ∷ xs) = rw (eq-eqb x x refl) (same_refl xs)
-
-pub same_true : (xs ys : List ℕ) → same xs ys ≡ true → xs ≡ ys
-same_true [] [] h = refl
-same_true [] (y ∷ ys) h = absurd (false≢true h)
-same_true (x ∷ xs) [] h = absurd (false≢true h)
-same_true (x ∷ xs) (y ∷ ys) h =
-    let both = and_parts (eqb x y) (same xs ys) h in
-    ap₂ (λ (b : ℕ) (bs : List ℕ). b ∷ bs) (eqb-true x y both.0) (same_true xs ys both.1)
+-- the test of byte strings says whether they are equal
+pub same_tells : (xs ys : List ℕ) → Decides (same xs ys) (xs ≡ ys)
+same_tells = compares_Decides same (search rules)
 
 pub length_two : (n : ℕ) → length (two n) ≡ 2
 unfolding two

@@ -20,7 +20,7 @@ pub fn clear_spare(bits: Bits, bytes: &mut [u8])
     ensures after { bytes.new ≡ cleared bits.0 bytes.old }
     ensures bits { (i : ℕ) → bit_at bytes.new i ≡ (if nat_lt i bits.0 then bit_at bytes.old i else 0) }
 {
-    // What this answers is not wanted, but that each byte is below 256: of bytes that are then written no type says it.
+    // For the proof alone: it tells that each byte is below 256, which no type tells of bytes that are written.
     octets(bytes);
     let whole = (bits.0 / 8) as usize;
     if whole < bytes.len() {
@@ -29,8 +29,8 @@ pub fn clear_spare(bits: Bits, bytes: &mut [u8])
     }
 }
 
-/// A byte string and its length in bits. Where the bytes are more than the bits fill, their bits are spare; where they
-/// are fewer, no bit is.
+/// A byte string and its length in bits. Where there are more bytes than the bits fill, all bits of the further bytes are
+/// spare; where there are fewer, no bit is.
 #[derive(Clone, Copy, Debug)]
 pub struct BitString<'a> {
     pub bits: Bits,
@@ -38,7 +38,7 @@ pub struct BitString<'a> {
 }
 
 impl BitString<'_> {
-    /// Whether the spare bits are clear. It reads every byte from the last one on, whatever it finds.
+    /// Whether the spare bits are clear. It reads every byte from that in which the length ends, whatever it finds.
     pub fn spare_clear(self) -> bool
         ensures value { result ≡ clear self.entry.bits.0 self.entry.bytes.now }
         ensures tells { Decides result ((i : ℕ) → self.entry.bits.0 ≤ i → bit_at self.entry.bytes.now i ≡ 0) }
@@ -49,6 +49,7 @@ impl BitString<'_> {
             return true;
         }
         let last = bytes[whole];
-        (last ^ high_bits(bits.0 % 8, last)) | octets(&bytes[whole + 1..]) == 0
+        let spare = last ^ high_bits(bits.0 % 8, last);
+        (spare | octets(&bytes[whole + 1..])) == 0
     }
 }

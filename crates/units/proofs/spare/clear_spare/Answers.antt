@@ -1,8 +1,7 @@
-use Rattle.std.proofs.Common.{◌≡◌, ℕ, suc, ◌+◌, ◌-◌, ◌/◌, List, ◌∷◌, ◌++◌, length, take, drop, set, replicate, sym, ap, ◌∙◌, arith, length-drop, length-set}
+use Rattle.std.proofs.Common.{◌≡◌, ℕ, suc, ◌+◌, ◌-◌, ◌/◌, ◌∷◌, ◌++◌, length, take, drop, set, replicate, sym, ap, ◌∙◌, arith, length-drop, length-set}
 use Rattle.std.proofs.lemmas.List.{take_rest}
-use Rattle.units.specs.Spare.{bit_at}
 use Rattle.units.proofs.StringLaws.{Octets-drop}
-use Rattle.units.proofs.SpareLaws.{bit-cleared, cleared_at, cleared_whole, written_zeros}
+use Rattle.units.proofs.SpareLaws.{cleared_told, cleared_at, cleared_whole, written_zeros}
 use Rattle.units.proofs.spare.clear_spare.Goals as goal
 
 pub returns-then-whole-bytes : goal.returns-then-whole-bytes
@@ -20,10 +19,10 @@ returns-then-whole-bytes c =
     ∙ ap (λ (v : ℕ). take whole xs ++ (v ∷ replicate (length xs - suc whole) 0)) c.high_bits.ensures
     ∙ sym (cleared_at c.args.bits.0 xs (omega arith) (Octets-drop xs (suc whole) c.octets.ensures.bytes))
     in
-    record { after = e; bits = λ i. ap (λ (zs : List ℕ). bit_at zs i) e ∙ bit-cleared c.args.bits.0 xs i }
+    record { after = e; bits = cleared_told c.args.bits.0 xs _ e }
 
 pub returns-else-whole-bytes : goal.returns-else-whole-bytes
 returns-else-whole-bytes c =
     let xs = c.args.bytes.now in
     let e = sym (cleared_whole c.args.bits.0 xs (omega arith)) in
-    record { after = e; bits = λ i. ap (λ (zs : List ℕ). bit_at zs i) e ∙ bit-cleared c.args.bits.0 xs i }
+    record { after = e; bits = cleared_told c.args.bits.0 xs _ e }

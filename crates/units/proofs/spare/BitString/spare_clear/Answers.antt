@@ -1,10 +1,9 @@
 use Rattle.std.proofs.Common.{◌≡◌, ℕ, suc, ◌+◌, ◌/◌, true, eqb, get_or, drop, sym, ap, ap₂, ◌∙◌, subst, arith}
 use Rattle.std.proofs.lemmas.List.{take_rest}
-use Rattle.std.proofs.lemmas.Bool.Decides.{Decides-at}
 use Rattle.std.specs.Int.Bits.{bit_or, bit_xor}
 use Rattle.units.specs.Strings.{Octets, united}
 use Rattle.units.specs.Spare.{clear}
-use Rattle.units.proofs.SpareLaws.{clear_at, clear_tells, clear_whole}
+use Rattle.units.proofs.SpareLaws.{clear_at, clear_told, clear_whole}
 use Rattle.units.proofs.spare.BitString.spare_clear.Goals as goal
 
 pub returns-then-whole-bytes : goal.returns-then-whole-bytes
@@ -12,7 +11,7 @@ returns-then-whole-bytes c =
     let n = c.args.self.bits.0 in
     let xs = c.args.self.bytes.now in
     let e = sym (clear_whole n xs (omega arith)) in
-    record { value = e; tells = Decides-at true (clear n xs) e (clear_tells n xs) }
+    record { value = e; tells = clear_told n xs true e }
 
 pub returns : goal.returns
 returns c =
@@ -24,4 +23,4 @@ returns c =
     ap₂ (λ (k u : ℕ). eqb (bit_or (bit_xor (get_or xs (n / 8) 0) k) u) 0) c.high_bits.ensures (c.octets.ensures.value ∙ ap united later)
     ∙ sym (clear_at n xs (omega arith) (subst Octets later c.octets.ensures.bytes))
     in
-    record { value = e; tells = Decides-at _ (clear n xs) e (clear_tells n xs) }
+    record { value = e; tells = clear_told n xs _ e }
