@@ -36,6 +36,7 @@ fn halves(v: u128) -> (u64, u64)
 }
 
 /// Division by x^64. What stands below x^64 goes up by x^-64, which is x^64 + x^63 + x^62 + x^57.
+#[tactic(auto, using(crate::proofs::ReductionLaws::divided_is))]
 fn divided(v: u128) -> u128
     ensures { remainder (result * 2 ^ 64) ≡ remainder v }
 {

@@ -3,8 +3,7 @@
 //! Of each factor only every fifth coefficient is taken at a time. Then at most thirteen ones meet at a place of the
 //! integer product, which the five bits from that place to the next can count, so that no carry reaches the next place;
 //! and the low bit of each count is the coefficient.
-ghost use Rattle.std.specs.Prelude.{◌≡◌, ℕ, ◌<◌, ◌^◌};
-ghost use Rattle.std.specs.Int.Bits.{bit_and};
+ghost use Rattle.std.specs.Prelude.{◌≡◌, ℕ, ◌<◌, ◌^◌, bit_and};
 ghost use Rattle.polynomials.specs.Polynomials.{ProductStands, product};
 ghost use Rattle.polynomials.specs.Words.{holes};
 
@@ -18,6 +17,7 @@ const WIDE_HOLES: u128 = 0x2108_4210_8421_0842_1084_2108_4210_8421;
 const SHIFTS: u32 = 5;
 
 /// The product of two polynomials of 64 coefficients each.
+#[tactic(auto, using(crate::proofs::ProductLaws::product_stands))]
 pub fn product(x: u64, y: u64) -> u128
     ensures value { result ≡ product x y }
     ensures stands { ProductStands }
@@ -29,7 +29,7 @@ pub fn product(x: u64, y: u64) -> u128
 fn row(x: u64, y: u64) -> u128
     ensures { result ≡ product x (bit_and y holes) }
 {
-    // The factors change sides, since `product` has gone through the places of `y`, and these are those of `x`.
+    // `product` goes through the places of `y`. Here those of `x` are gone through, so the factors change sides.
     over_places(y & HOLES, x, sparse)
 }
 
@@ -47,6 +47,7 @@ fn over_places<F: Fn(u64, u64) -> u128>(x: u64, y: u64, part: F) -> u128
 }
 
 /// The product of the coefficients of `x` and of `y` at the holes.
+#[tactic(auto, using(crate::proofs::WordLaws::sparse_product))]
 fn sparse(x: u64, y: u64) -> u128
     ensures { result ≡ product (bit_and x holes) (bit_and y holes) }
 {
