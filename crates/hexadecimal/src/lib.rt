@@ -86,7 +86,8 @@ pub fn decode(heap: Global, text: &str) -> Result<Vec<u8>, Fault>
     let (pairs, _) = text.as_bytes().as_chunks::<2>();
     let mut bytes = Vec::new(heap);
     for [high, low] in pairs {
-        let byte = byte_value(*high, *low).ok_or(Fault::Text)?;
+        // The text has been judged, so each pair stands for a byte.
+        let byte = byte_value(*high, *low).unwrap();
         bytes.push(byte)?;
     }
     Ok(bytes)
