@@ -6,8 +6,9 @@ ghost use Rattle.field.specs.Blocks.{block_bytes, polynomial};
 
 use std::ops::Add;
 
-/// A block, as the polynomial that it stands for. It is not `Debug`: most blocks are secret.
-#[derive(Clone, Copy, PartialEq, Eq)]
+/// A block, as the polynomial that it stands for. Most blocks are secret, so it has neither `Debug` nor
+/// equality.
+#[derive(Clone, Copy)]
 pub struct Block(pub u128);
 
 impl Block {

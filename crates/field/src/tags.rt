@@ -42,5 +42,5 @@ impl TagKeys {
 fn lengths(bits: Bits, aad_bits: Bits) -> Block
     ensures { result.0 ≡ lengths bits.0 aad_bits.0 }
 {
-    Block(bits.0 as u128 + ((aad_bits.0 as u128) << 64))
+    Block(u128::from(bits.0) + (u128::from(aad_bits.0) << 64))
 }
