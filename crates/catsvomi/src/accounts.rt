@@ -5,13 +5,11 @@ use std::collections::BTreeMap;
 use std::fmt;
 use units::{Reason, Refusal};
 
-/// The commands by kind, how they ended, and the lines that could not be read.
+/// The commands by kind, those refused by reason, and the lines that could not be read.
 #[derive(Drop)]
 pub struct Account {
     by_command: BTreeMap<Command, u64>,
     by_reason: BTreeMap<Numbered, u64>,
-    accepted: u64,
-    refused: u64,
     unreadable: u64,
 }
 
@@ -32,8 +30,6 @@ impl Account {
         Account {
             by_command: BTreeMap::new(heap),
             by_reason: BTreeMap::new(heap),
-            accepted: 0,
-            refused: 0,
             unreadable: 0,
         }
     }
@@ -41,12 +37,8 @@ impl Account {
     /// Enters a command and, if it was refused, why.
     pub fn enter(&mut self, command: Command, refusal: Option<Refusal>) -> Result<(), AllocError> {
         count(self.by_command.entry(command)?.or_insert(0));
-        match refusal {
-            None => count(&mut self.accepted),
-            Some(Refusal { reason, .. }) => {
-                count(self.by_reason.entry(Numbered(reason))?.or_insert(0));
-                count(&mut self.refused);
-            }
+        if let Some(Refusal { reason, .. }) = refusal {
+            count(self.by_reason.entry(Numbered(reason))?.or_insert(0));
         }
         Ok(())
     }
@@ -57,6 +49,13 @@ impl Account {
     }
 }
 
+/// The sum of all counts.
+fn total<K: Ord>(counts: &BTreeMap<K, u64>) -> u64 {
+    counts
+        .values()
+        .fold(0, |sum: u64, count| sum.saturating_add(*count))
+}
+
 /// Counts one more. A full counter stays where it is.
 fn count(counter: &mut u64) {
     *counter = counter.saturating_add(1);
@@ -64,9 +63,9 @@ fn count(counter: &mut u64) {
 
 impl fmt::Display for Account {
     fn fmt<W: fmt::Write>(&self, f: &mut fmt::Formatter<W>) -> fmt::Result {
-        let accepted = self.accepted;
-        let refused = self.refused;
-        let commands = accepted.saturating_add(refused);
+        let commands = total(&self.by_command);
+        let refused = total(&self.by_reason);
+        let accepted = commands.saturating_sub(refused);
         let unreadable = self.unreadable;
         write!(f, "account\n  commands: {commands}\n")?;
         write_counts(f, &self.by_command)?;

@@ -61,7 +61,7 @@ impl<'a> Reader<'a> {
 }
 
 /// The result of [`Reader::record_indices`].
-#[derive(Clone, Copy, Debug)]
+#[derive(Clone, Copy)]
 pub struct RecordIndices<'a> {
     reader: Reader<'a>,
 }

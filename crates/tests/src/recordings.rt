@@ -11,9 +11,7 @@ mod tests {
         let mut bytes = Vec::from_slice(heap, b"KS")?;
         bytes.extend_from_slice(&[7; 12])?;
         bytes.extend_from_slice(&count.to_be_bytes())?;
-        for _ in 0..count {
-            bytes.extend_from_slice(&[1; 16])?;
-        }
+        bytes.resize(16 + 16 * usize::from(count), 1)?;
         Ok(bytes)
     }
 
@@ -21,9 +19,7 @@ mod tests {
     fn remark(heap: Global, length: u8) -> Result<Vec<u8>, AllocError> {
         let mut bytes = Vec::from_slice(heap, b"RM")?;
         bytes.push(length)?;
-        for _ in 0..length {
-            bytes.push(b'x')?;
-        }
+        bytes.resize(3 + usize::from(length), b'x')?;
         Ok(bytes)
     }
 
