@@ -1,5 +1,5 @@
 -- The product of two words, by products of their coefficients at every fifth place.
-use Rattle.std.proofs.Common.{◌≡◌, ℕ, zero, suc, ◌+◌, ◌*◌, ◌/◌, ◌%◌, ◌^◌, ◌<◌, bit_and, sym, ◌∙◌, ap₂, lt_of_le_of_lt, add-zero, mod-lt, mod-eq_of_lt, add-one, arith, lit<, pow_pos}
+use Rattle.std.proofs.Common.{◌≡◌, ℕ, zero, suc, ◌+◌, ◌*◌, ◌/◌, ◌%◌, ◌^◌, ◌<◌, bit_and, sym, refl, ◌∙◌, ap₂, lt_of_le_of_lt, add-zero, mod-lt, mod-eq_of_lt, add-one, arith, lit<, pow_pos}
 use Rattle.std.proofs.lemmas.Nat.Bits.{bit_at_and, bit_at_xor, same_from_bits}
 use Rattle.std.proofs.lemmas.Nat.{and_block, and_le_l, shr_split}
 use Rattle.std.specs.Int.Bits.{and_zero_r}
@@ -7,7 +7,7 @@ use Rattle.units.specs.Sums.{◌⊕◌}
 use Rattle.polynomials.specs.Polynomials.{product}
 use Rattle.polynomials.specs.Words.{holes}
 use Rattle.polynomials.proofs.ProductLaws.{product_lt, product-shl_r, product-xor_r}
-use Rattle.polynomials.proofs.HoleLaws.{mask_odds, odds, odds-product, Upto-odds}
+use Rattle.polynomials.proofs.HoleLaws.{mask_odds, odds, ones, odds-product, Upto-odds}
 
 -- ---- masks
 
@@ -27,7 +27,12 @@ abbrev pub covered : ℕ → ℕ
 covered zero = 0
 covered (suc j) = covered j ⊕ holes * 2 ^ j
 
--- `ones 13` computes to the holes, and `ones 26` to the wide ones
+holes_are : ones 13 ≡ holes
+holes_are = refl
+
+wide_holes_are : ones 26 ≡ wide_holes
+wide_holes_are = refl
+
 pub sparse_product : (x y : ℕ) → bit_and (bit_and x holes * bit_and y holes) wide_holes ≡ product (bit_and x holes) (bit_and y holes)
 sparse_product x y =
     let a = odds 13 x in
