@@ -17,6 +17,7 @@ const WIDE_HOLES: u128 = 0x2108_4210_8421_0842_1084_2108_4210_8421;
 const SHIFTS: u32 = 5;
 
 /// The product of two polynomials of 64 coefficients each.
+#[inline(always)]
 #[tactic(auto, using(crate::proofs::ProductLaws::product_stands))]
 pub fn product(x: u64, y: u64) -> u128
     ensures value { result ≡ product x y }
@@ -34,6 +35,7 @@ fn row(x: u64, y: u64) -> u128
 }
 
 /// The product of `x` and `y`, where `part` gives that of `x` and the coefficients of its second word at the holes.
+#[inline(always)]
 fn over_places<F: Fn(u64, u64) -> u128>(x: u64, y: u64, part: F) -> u128
     requires callable { F.IsAlwaysCallable part }
     requires multiplies { (b r : ℕ) → b < 2 ^ 64 → F.post part x b r → r ≡ product x (bit_and b holes) }
