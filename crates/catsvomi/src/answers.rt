@@ -1,5 +1,6 @@
 //! What a command answers, and how that is written.
 use super::listings::Listing;
+use hexadecimal::Hex;
 use std::fmt;
 use units::Refusal;
 
@@ -7,13 +8,14 @@ use units::Refusal;
 pub enum Answer {
     Help,
     Recording(Listing),
+    Bytes(Vec<u8>),
 }
 
 impl Answer {
     /// The refusal, if the command was refused.
     pub fn refusal(&self) -> Option<Refusal> {
         match self {
-            Answer::Help => None,
+            Answer::Help | Answer::Bytes(_) => None,
             Answer::Recording(listing) => listing.verdict.err(),
         }
     }
@@ -24,6 +26,10 @@ impl fmt::Display for Answer {
         match self {
             Answer::Help => f.write_str(HELP),
             Answer::Recording(listing) => write!(f, "{listing}"),
+            Answer::Bytes(bytes) => {
+                let bytes = Hex(bytes.as_slice());
+                write!(f, "{bytes}")
+            }
         }
     }
 }
@@ -38,4 +44,10 @@ error: line N: and why, and the run goes on. An account comes at the end.
       This text.
   recording data=HEX
       Lists the records of a recording, one a line and each with its offset, up
-      to the first fault, and then says whether the whole recording is sound.";
+      to the first fault, and then says whether the whole recording is sound.
+  dot a=HEX b=HEX
+      The product of two blocks in the field, a block.
+  polyval h=HEX data=HEX
+      The bytes of data folded with the block h, from zero.
+  tag h=HEX q=HEX p=HEX t=BYTES aad_bits=BITS aad=HEX bits=BITS data=HEX
+      The tag of t bytes, 4 to 16, of an AAD and a ciphertext.";

@@ -1,6 +1,7 @@
 //! The commands: which word names which, and what each answers.
 use super::answers::Answer;
 use super::errors::Unreadable;
+use super::field_commands;
 use super::fields::Fields;
 use super::listings::Listing;
 use std::alloc::Global;
@@ -8,8 +9,11 @@ use std::fmt;
 
 #[derive(Clone, Copy, PartialEq, Eq, PartialOrd, Ord)]
 pub enum Command {
+    Dot,
     Help,
+    Polyval,
     Recording,
+    Tag,
 }
 
 impl<'a> TryFrom<&'a str> for Command {
@@ -17,8 +21,11 @@ impl<'a> TryFrom<&'a str> for Command {
 
     fn try_from(word: &'a str) -> Result<Command, Unreadable<'a>> {
         match word {
+            "dot" => Ok(Command::Dot),
             "help" => Ok(Command::Help),
+            "polyval" => Ok(Command::Polyval),
             "recording" => Ok(Command::Recording),
+            "tag" => Ok(Command::Tag),
             _ => Err(Unreadable::UnknownCommand(word)),
         }
     }
@@ -28,8 +35,11 @@ impl<'a> TryFrom<&'a str> for Command {
 impl fmt::Display for Command {
     fn fmt<W: fmt::Write>(&self, f: &mut fmt::Formatter<W>) -> fmt::Result {
         f.write_str(match self {
+            Command::Dot => "dot",
             Command::Help => "help",
+            Command::Polyval => "polyval",
             Command::Recording => "recording",
+            Command::Tag => "tag",
         })
     }
 }
@@ -53,6 +63,9 @@ impl Command {
         match self {
             Command::Help => Ok(Answer::Help),
             Command::Recording => Ok(Answer::Recording(Listing::new(fields.bytes("data")?))),
+            Command::Dot => Ok(Answer::Bytes(field_commands::dot(fields)?)),
+            Command::Polyval => Ok(Answer::Bytes(field_commands::polyval(fields)?)),
+            Command::Tag => Ok(Answer::Bytes(field_commands::tag(fields)?)),
         }
     }
 }

@@ -19,6 +19,18 @@ pub enum Unreadable<'a> {
     Unexpected(&'a str),
     #[error("'{0}=' is not hexadecimal, two digits to a byte, or - for none")]
     NoHex(&'static str),
+    #[error("'{0}=' is not a block of 16 bytes")]
+    NoBlock(&'static str),
+    #[error("'{key}=' is not a decimal number from {least} to {most}")]
+    NoNumber {
+        key: &'static str,
+        least: u32,
+        most: u32,
+    },
+    #[error("'{0}=' has not exactly the bytes that its bits fill")]
+    NotFilled(&'static str),
+    #[error("'{0}=' has too many bytes")]
+    TooLong(&'static str),
     #[error("there is no memory for it")]
     NoMemory(#[from(alloc)] AllocError),
 }

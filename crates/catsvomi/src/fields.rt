@@ -1,9 +1,12 @@
 //! A command line taken apart: a word and then fields as `key=value`.
 use super::errors::Unreadable;
+use field::Block;
 use hexadecimal::Fault;
 use indexmap::IndexMap;
 use std::alloc::{AllocError, Global};
+use std::ops::RangeInclusive;
 use std::str::SplitWhitespace;
+use units::{BitString, Bits};
 
 /// The fields of a command that have not been taken yet, by their keys and in the order of the line.
 #[derive(Drop)]
@@ -42,11 +45,89 @@ impl<'a> Fields<'a> {
         })
     }
 
+    /// Takes a field of sixteen bytes.
+    pub fn block(&mut self, key: &'static str) -> Result<Block, Unreadable<'a>> {
+        match self.bytes(key)?.as_slice().as_chunks::<16>() {
+            ([block], []) => Ok(Block::from_bytes(block)),
+            _ => Err(Unreadable::NoBlock(key)),
+        }
+    }
+
+    /// Takes a field that is a decimal number within a range.
+    pub fn number(
+        &mut self,
+        key: &'static str,
+        range: RangeInclusive<u32>,
+    ) -> Result<u32, Unreadable<'a>> {
+        match self.take(key)?.parse::<u32>() {
+            Ok(number) if range.contains(&number) => Ok(number),
+            _ => Err(Unreadable::NoNumber {
+                key,
+                least: *range.start(),
+                most: *range.end(),
+            }),
+        }
+    }
+
+    /// Takes a number of bits and exactly the bytes that they fill.
+    pub fn bit_string(
+        &mut self,
+        bits_key: &'static str,
+        key: &'static str,
+    ) -> Result<BitField, Unreadable<'a>> {
+        let bits = Bits(self.number(bits_key, 0..=u32::MAX)?);
+        let bytes = self.bytes(key)?;
+        if bytes.len() != bits.bytes().0 {
+            return Err(Unreadable::NotFilled(key));
+        }
+        Ok(BitField { bits, bytes })
+    }
+
+    /// Takes a field of bytes, all bits of which count.
+    pub fn whole_bytes(&mut self, key: &'static str) -> Result<BitField, Unreadable<'a>> {
+        let bytes = self.bytes(key)?;
+        let bits = bytes
+            .len()
+            .checked_mul(8)
+            .and_then(|bits| u32::try_from(bits).ok())
+            .ok_or(Unreadable::TooLong(key))?;
+        Ok(BitField {
+            bits: Bits(bits),
+            bytes,
+        })
+    }
+
+    /// Bytes as an answer.
+    pub fn copied(&self, bytes: &[u8]) -> Result<Vec<u8>, Unreadable<'a>> {
+        Ok(Vec::from_slice(self.heap, bytes)?)
+    }
+
+    /// So many bytes for an answer.
+    pub fn zeros(&self, count: usize) -> Result<Vec<u8>, Unreadable<'a>> {
+        Ok(Vec::from_elem(self.heap, 0, count)?)
+    }
+
     /// Ends the reading: no field may be left.
     pub fn end(self) -> Result<(), Unreadable<'a>> {
         match self.left.keys().next() {
             Some(key) => Err(Unreadable::Unexpected(*key)),
             None => Ok(()),
+        }
+    }
+}
+
+/// A bit string as a line gives it, with bytes of its own.
+#[derive(Drop)]
+pub struct BitField {
+    bits: Bits,
+    bytes: Vec<u8>,
+}
+
+impl BitField {
+    pub fn as_bit_string(&self) -> BitString<'_> {
+        BitString {
+            bits: self.bits,
+            bytes: self.bytes.as_slice(),
         }
     }
 }

@@ -6,6 +6,7 @@ mod accounts;
 mod answers;
 mod commands;
 mod errors;
+mod field_commands;
 mod fields;
 mod listings;
 
