@@ -2,10 +2,14 @@
 //!
 //! Of each factor only every fifth coefficient is taken at a time. Then at most thirteen ones meet at a place of the
 //! integer product, which the five bits from that place to the next can count, so that no carry reaches the next place;
-//! and the low bit of each count is the coefficient.
-ghost use Rattle.std.specs.Prelude.{◌≡◌, ℕ, ◌<◌, ◌^◌, bit_and};
+//! and the low bit of each count is the coefficient. Integer products that have their coefficients at the same places are
+//! added bit by bit before the other bits are dropped.
+ghost use Rattle.std.specs.Prelude.{◌≡◌, ℕ, ◌+◌, ◌*◌, ◌%◌, ◌<◌};
 ghost use Rattle.polynomials.specs.Polynomials.{ProductStands, product};
-ghost use Rattle.polynomials.specs.Words.{holes};
+ghost use Rattle.polynomials.specs.Words.{opposite, part, sum_of};
+
+/// How far the places are apart that are taken at a time.
+const STEP: u32 = 5;
 
 /// Every fifth place of a word: 0, 5, 10 and so on up to 60.
 const HOLES: u64 = 0x1084_2108_4210_8421;
@@ -13,45 +17,41 @@ const HOLES: u64 = 0x1084_2108_4210_8421;
 /// Every fifth place of a product of two words.
 const WIDE_HOLES: u128 = 0x2108_4210_8421_0842_1084_2108_4210_8421;
 
-/// How often the holes have to be shifted to cover every place.
-const SHIFTS: u32 = 5;
-
 /// The product of two polynomials of 64 coefficients each.
 #[inline(always)]
-#[tactic(auto, using(crate::proofs::ProductLaws::product_stands))]
+#[tactic(auto, using(crate::proofs::WordLaws::parts_product, crate::proofs::ProductLaws::product_stands))]
 pub fn product(x: u64, y: u64) -> u128
     ensures value { result ≡ product x y }
     ensures stands { ProductStands }
 {
-    over_places(x, y, row)
-}
-
-/// The product of `x` and the coefficients of `y` at the holes.
-fn row(x: u64, y: u64) -> u128
-    ensures { result ≡ product x (bit_and y holes) }
-{
-    // `product` goes through the places of `y`. Here those of `x` are gone through, so the factors change sides.
-    over_places(y & HOLES, x, sparse)
-}
-
-/// The product of `x` and `y`, where `part` gives that of `x` and the coefficients of its second word at the holes.
-#[inline(always)]
-fn over_places<F: Fn(u64, u64) -> u128>(x: u64, y: u64, part: F) -> u128
-    requires callable { F.IsAlwaysCallable part }
-    requires multiplies { (b r : ℕ) → b < 2 ^ 64 → F.post part x b r → r ≡ product x (bit_and b holes) }
-    ensures { result ≡ product x y }
-{
     let mut sum: u128 = 0;
-    for shift in 0..SHIFTS {
-        sum ^= part(x, y >> shift) << shift;
+    for place in 0..STEP {
+        sum ^= product_from(x, y, place);
     }
     sum
 }
 
-/// The product of the coefficients of `x` and of `y` at the holes.
-#[tactic(auto, using(crate::proofs::WordLaws::sparse_product))]
-fn sparse(x: u64, y: u64) -> u128
-    ensures { result ≡ product (bit_and x holes) (bit_and y holes) }
+/// The coefficients of the product at every fifth place from `place` on.
+#[inline(always)]
+#[tactic(auto, using(crate::proofs::WordLaws::part_more))]
+fn product_from(x: u64, y: u64, place: u32) -> u128
+    requires { place < 5 }
+    ensures { result ≡ sum_of 5 (λ i. product (part x i) (part y (opposite place i))) }
 {
-    (u128::from(x & HOLES) * u128::from(y & HOLES)) & WIDE_HOLES
+    let mut sum: u128 = 0;
+    for i in 0..STEP {
+        // The two places add up to `place`, or to that and five.
+        let j = (place + 4 * i) % STEP;
+        sum ^= u128::from(part(x, i)) * u128::from(part(y, j));
+    }
+    sum & (WIDE_HOLES << place)
+}
+
+/// The coefficients of `x` at every fifth place from `place` on.
+#[tactic(auto, using(crate::proofs::WordLaws::part_is))]
+fn part(x: u64, place: u32) -> u64
+    requires { place < 5 }
+    ensures { result ≡ part x place }
+{
+    x & (HOLES << place)
 }
