@@ -96,7 +96,7 @@ part_product x y k i j w hx hy e hw =
     rw (part_shl x i, part_shl y j, mul-mul-mul_comm, ← pow-add) (split (a * b))
     in
     let polynomials : product (part x i) (part y j) ≡ product a b * 2 ^ (5 * w) * 2 ^ k =
-    rw (part_shl x i, part_shl y j, product-shl_l, product-shl_r, mul_assoc, ← pow-add, add_comm j i) (split (product a b))
+    rw (part_shl x i, part_shl y j, product-shl_l, product-shl_r, mul_assoc (product a b) (2 ^ j) (2 ^ i), ← pow-add, add_comm j i) (split (product a b))
     in
     and-mod (part x i * part y j) (wide_holes * 2 ^ k) 128 (mul-lt _ _ (2 ^ 64) (2 ^ 64) (part_lt x i hx) (part_lt y j hy))
     ∙ ap (λ (n : ℕ). bit_and n (wide_holes * 2 ^ k)) numbers

@@ -10,9 +10,7 @@ const LOW: u128 = 0xFFFF_FFFF_FFFF_FFFF;
 
 /// The product of two polynomials below x^128, by x^-128, modulo x^128 + x^127 + x^126 + x^121 + 1.
 ///
-/// With three products of words for four, and with the low half of the product divided by x^64 twice. It is inlined with all
-/// that it calls, which spares a fold a tenth of its time.
-#[inline(always)]
+/// With three products of words for four, and with the low half of the product divided by x^64 twice.
 pub fn pdot(a: u128, b: u128) -> u128
     ensures value { result ≡ pdot a b }
     ensures quotient { Quotient a b result }

@@ -18,7 +18,6 @@ const HOLES: u64 = 0x1084_2108_4210_8421;
 const WIDE_HOLES: u128 = 0x2108_4210_8421_0842_1084_2108_4210_8421;
 
 /// The product of two polynomials of 64 coefficients each.
-#[inline(always)]
 #[tactic(auto, using(crate::proofs::WordLaws::parts_product, crate::proofs::ProductLaws::product_stands))]
 pub fn product(x: u64, y: u64) -> u128
     ensures value { result ≡ product x y }
@@ -32,7 +31,6 @@ pub fn product(x: u64, y: u64) -> u128
 }
 
 /// The coefficients of the product at every fifth place from `place` on.
-#[inline(always)]
 #[tactic(auto, using(crate::proofs::WordLaws::part_more))]
 fn product_from(x: u64, y: u64, place: u32) -> u128
     requires { place < 5 }
