@@ -1,6 +1,6 @@
 /* Measures the fold: nanoseconds and time stamp counter cycles a block, at several lengths.
  *
- * Before anything is measured, the fold is compared with a plain one, bit by bit, on data of every length up to 100 bytes. */
+ * Before anything is measured, the fold is compared with a plain one, bit by bit, on data of every length up to 800 bits. */
 #include <stdint.h>
 #include <stdio.h>
 #include <stdlib.h>
@@ -33,23 +33,24 @@ static void plain_dot(uint8_t a[16], const uint8_t b[16])
     memcpy(a, r, 16);
 }
 
-static void plain_fold(const uint8_t h[16], uint8_t value[16], const uint8_t *bytes, size_t length)
+/* The most significant bit of a byte comes first. */
+static void plain_fold(const uint8_t h[16], uint8_t value[16], uint32_t bits, const uint8_t *bytes)
 {
-    for (size_t at = 0; at < length; at += 16) {
-        for (size_t k = 0; k < 16 && at + k < length; k++)
-            value[k] ^= bytes[at + k];
+    for (uint32_t block = 0; block < bits; block += 128) {
+        for (uint32_t at = block; at < block + 128 && at < bits; at++)
+            value[at / 8 % 16] ^= bytes[at / 8] & (0x80 >> at % 8);
         plain_dot(value, h);
     }
 }
 
 static void compare(const uint8_t h[16], const uint8_t *bytes)
 {
-    for (size_t length = 0; length <= 100; length++) {
+    for (uint32_t bits = 0; bits <= 800; bits++) {
         uint8_t ours[16] = {1, 2, 3}, plain[16] = {1, 2, 3};
-        bench_fold(h, ours, (uint32_t)(8 * length), bytes, length);
-        plain_fold(h, plain, bytes, length);
+        bench_fold(h, ours, bits, bytes, (bits + 7) / 8);
+        plain_fold(h, plain, bits, bytes);
         if (memcmp(ours, plain, 16) != 0) {
-            fprintf(stderr, "the folds of %zu bytes differ\n", length);
+            fprintf(stderr, "the folds of %u bits differ\n", (unsigned)bits);
             exit(1);
         }
     }

@@ -1,5 +1,6 @@
 /* Calls the measured code with its secrets marked as undefined, for valgrind's memcheck, which reports every branch and every
- * address that depends on an undefined value. A fold whose H and data are undefined must give no report. */
+ * address that depends on an undefined value. A fold whose H and data are undefined must give no report, and neither must a
+ * tag whose H, Q, P, AAD and ciphertext are. */
 #include <stddef.h>
 #include <stdint.h>
 #include <stdio.h>
@@ -7,15 +8,21 @@
 #include <valgrind/memcheck.h>
 
 void bench_fold(const uint8_t h[16], uint8_t value[16], uint32_t bits, const uint8_t *bytes, size_t length);
+void bench_tag(const uint8_t h[16], const uint8_t q[16], const uint8_t p[16], uint32_t aad_bits, const uint8_t *aad,
+               size_t aad_length, uint32_t bits, const uint8_t *ciphertext, size_t length, uint8_t *out, size_t out_length);
 
 int main(int count, char **words)
 {
     static const size_t lengths[] = {0, 1, 15, 16, 17, 100, 1400};
-    uint8_t h[16], value[16], bytes[1400];
+    uint8_t h[16], q[16], p[16], value[16], bytes[1400], tag[16];
     memset(h, 3, sizeof h);
+    memset(q, 4, sizeof q);
+    memset(p, 6, sizeof p);
     memset(value, 5, sizeof value);
     memset(bytes, 7, sizeof bytes);
     VALGRIND_MAKE_MEM_UNDEFINED(h, sizeof h);
+    VALGRIND_MAKE_MEM_UNDEFINED(q, sizeof q);
+    VALGRIND_MAKE_MEM_UNDEFINED(p, sizeof p);
     VALGRIND_MAKE_MEM_UNDEFINED(value, sizeof value);
     VALGRIND_MAKE_MEM_UNDEFINED(bytes, sizeof bytes);
     for (size_t i = 0; i < sizeof lengths / sizeof *lengths; i++) {
@@ -23,9 +30,10 @@ int main(int count, char **words)
         bench_fold(h, value, bits, bytes, lengths[i]);
         if (bits > 0)
             bench_fold(h, value, bits - 3, bytes, lengths[i]);
+        bench_tag(h, q, p, 61, bytes, 8, bits, bytes, lengths[i], tag, 4 + i);
     }
     /* asked for a report, to see that one would be given */
-    if (count > 1 && strcmp(words[1], "report") == 0 && value[0] == 0)
+    if (count > 1 && strcmp(words[1], "report") == 0 && (value[0] ^ tag[0]) == 0)
         puts("zero");
     return 0;
 }

@@ -1,11 +1,12 @@
-//! The calls that the programs of the folder `bench` measure, exported for C. Nothing checks a declaration in C.
+//! The calls that the programs of the folder `bench` measure and watch, exported for C. Nothing checks a declaration in C.
 #![tactic(auto)]
 
-ghost use Rattle.std.specs.Prelude.{◌≡◌};
+ghost use Rattle.std.specs.Prelude.{◌≡◌, ◌++◌, length, drop};
 ghost use Rattle.field.specs.Blocks.{block_bytes, polynomial};
 ghost use Rattle.field.specs.Folds.{fold};
+ghost use Rattle.field.specs.Tags.{tag};
 
-use field::{Block, fold};
+use field::{Block, TagKeys, fold};
 use units::{BitString, Bits};
 
 /// Folds so many bits of data with the block `h`, from the block `value` and into it.
@@ -19,4 +20,34 @@ pub extern "C" fn bench_fold(h: &[u8; 16], value: &mut [u8; 16], bits: u32, byte
     };
     let folded = fold(Block::from_bytes(h), Block::from_bytes(value), input);
     *value = folded.to_bytes();
+}
+
+/// Writes the tag that the blocks `h`, `q` and `p` make, as many of its bytes as `out` has.
+#[unsafe(no_mangle)]
+pub extern "C" fn bench_tag(
+    h: &[u8; 16],
+    q: &[u8; 16],
+    p: &[u8; 16],
+    aad_bits: u32,
+    aad: &[u8],
+    bits: u32,
+    ciphertext: &[u8],
+    out: &mut [u8],
+)
+    ensures { out.new ≡ tag (polynomial h.now) (polynomial q.now) (polynomial p.now) (length out.old) aad_bits aad.now bits ciphertext.now ++ drop 16 out.old }
+{
+    let keys = TagKeys {
+        h: Block::from_bytes(h),
+        q: Block::from_bytes(q),
+        p: Block::from_bytes(p),
+    };
+    let aad = BitString {
+        bits: Bits(aad_bits),
+        bytes: aad,
+    };
+    let ciphertext = BitString {
+        bits: Bits(bits),
+        bytes: ciphertext,
+    };
+    keys.tag(aad, ciphertext, out);
 }

@@ -9,10 +9,10 @@ use std::fmt;
 
 #[derive(Clone, Copy, PartialEq, Eq, PartialOrd, Ord)]
 pub enum Command {
-    Dot,
     Help,
-    Polyval,
     Recording,
+    Dot,
+    Polyval,
     Tag,
 }
 
@@ -21,10 +21,10 @@ impl<'a> TryFrom<&'a str> for Command {
 
     fn try_from(word: &'a str) -> Result<Command, Unreadable<'a>> {
         match word {
-            "dot" => Ok(Command::Dot),
             "help" => Ok(Command::Help),
-            "polyval" => Ok(Command::Polyval),
             "recording" => Ok(Command::Recording),
+            "dot" => Ok(Command::Dot),
+            "polyval" => Ok(Command::Polyval),
             "tag" => Ok(Command::Tag),
             _ => Err(Unreadable::UnknownCommand(word)),
         }
@@ -35,10 +35,10 @@ impl<'a> TryFrom<&'a str> for Command {
 impl fmt::Display for Command {
     fn fmt<W: fmt::Write>(&self, f: &mut fmt::Formatter<W>) -> fmt::Result {
         f.write_str(match self {
-            Command::Dot => "dot",
             Command::Help => "help",
-            Command::Polyval => "polyval",
             Command::Recording => "recording",
+            Command::Dot => "dot",
+            Command::Polyval => "polyval",
             Command::Tag => "tag",
         })
     }
@@ -63,8 +63,8 @@ impl Command {
         match self {
             Command::Help => Ok(Answer::Help),
             Command::Recording => Ok(Answer::Recording(Listing::new(fields.bytes("data")?))),
-            Command::Dot => Ok(Answer::Bytes(field_commands::dot(fields)?)),
-            Command::Polyval => Ok(Answer::Bytes(field_commands::polyval(fields)?)),
+            Command::Dot => Ok(Answer::Block(field_commands::dot(fields)?)),
+            Command::Polyval => Ok(Answer::Block(field_commands::polyval(fields)?)),
             Command::Tag => Ok(Answer::Bytes(field_commands::tag(fields)?)),
         }
     }

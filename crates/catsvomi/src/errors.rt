@@ -27,9 +27,12 @@ pub enum Unreadable<'a> {
         least: u32,
         most: u32,
     },
-    #[error("'{0}=' has not exactly the bytes that its bits fill")]
-    NotFilled(&'static str),
-    #[error("'{0}=' has too many bytes")]
+    #[error("'{key}=' has not exactly the bytes that the bits of '{bits_key}=' fill")]
+    NotFilled {
+        key: &'static str,
+        bits_key: &'static str,
+    },
+    #[error("'{0}=' has more than 536870911 bytes")]
     TooLong(&'static str),
     #[error("there is no memory for it")]
     NoMemory(#[from(alloc)] AllocError),

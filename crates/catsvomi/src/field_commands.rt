@@ -4,18 +4,17 @@ use super::fields::Fields;
 use field::{Block, TagKeys};
 
 /// The product of two blocks.
-pub fn dot<'a>(fields: &mut Fields<'a>) -> Result<Vec<u8>, Unreadable<'a>> {
+pub fn dot<'a>(fields: &mut Fields<'a>) -> Result<Block, Unreadable<'a>> {
     let a = fields.block("a")?;
     let b = fields.block("b")?;
-    fields.copied(&field::pdot(a, b).to_bytes())
+    Ok(field::pdot(a, b))
 }
 
 /// Whole bytes folded from zero.
-pub fn polyval<'a>(fields: &mut Fields<'a>) -> Result<Vec<u8>, Unreadable<'a>> {
+pub fn polyval<'a>(fields: &mut Fields<'a>) -> Result<Block, Unreadable<'a>> {
     let h = fields.block("h")?;
     let data = fields.whole_bytes("data")?;
-    let value = field::fold(h, Block::ZERO, data.as_bit_string());
-    fields.copied(&value.to_bytes())
+    Ok(field::fold(h, Block::ZERO, data.as_bit_string()))
 }
 
 /// The tag of an AAD and a ciphertext.
@@ -24,7 +23,7 @@ pub fn tag<'a>(fields: &mut Fields<'a>) -> Result<Vec<u8>, Unreadable<'a>> {
     let size = fields.number("t", 4..=16)?;
     let aad = fields.bit_string("aad_bits", "aad")?;
     let ciphertext = fields.bit_string("bits", "data")?;
-    let mut out = fields.zeros(size as usize)?;
+    let mut out = fields.buffer(size as usize)?;
     keys.tag(
         aad.as_bit_string(),
         ciphertext.as_bit_string(),

@@ -59,8 +59,10 @@ impl<'a> Fields<'a> {
         key: &'static str,
         range: RangeInclusive<u32>,
     ) -> Result<u32, Unreadable<'a>> {
-        match self.take(key)?.parse::<u32>() {
-            Ok(number) if range.contains(&number) => Ok(number),
+        let text = self.take(key)?;
+        match text.parse::<u32>() {
+            // `parse` takes a plus sign as well
+            Ok(number) if range.contains(&number) && !text.starts_with('+') => Ok(number),
             _ => Err(Unreadable::NoNumber {
                 key,
                 least: *range.start(),
@@ -78,7 +80,7 @@ impl<'a> Fields<'a> {
         let bits = Bits(self.number(bits_key, 0..=u32::MAX)?);
         let bytes = self.bytes(key)?;
         if bytes.len() != bits.bytes().0 {
-            return Err(Unreadable::NotFilled(key));
+            return Err(Unreadable::NotFilled { key, bits_key });
         }
         Ok(BitField { bits, bytes })
     }
@@ -97,13 +99,8 @@ impl<'a> Fields<'a> {
         })
     }
 
-    /// Bytes as an answer.
-    pub fn copied(&self, bytes: &[u8]) -> Result<Vec<u8>, Unreadable<'a>> {
-        Ok(Vec::from_slice(self.heap, bytes)?)
-    }
-
-    /// So many bytes for an answer.
-    pub fn zeros(&self, count: usize) -> Result<Vec<u8>, Unreadable<'a>> {
+    /// A buffer of so many bytes for an answer.
+    pub fn buffer(&self, count: usize) -> Result<Vec<u8>, Unreadable<'a>> {
         Ok(Vec::from_elem(self.heap, 0, count)?)
     }
 

@@ -16,5 +16,6 @@ blocks_by zero xs = []
 blocks_by (suc n) [] = []
 blocks_by (suc n) (x ∷ xs) = polynomial (take 16 (x ∷ xs)) ∷ blocks_by n (drop 16 (x ∷ xs))
 
+-- all of them
 unfoldable pub blocks : List ℕ → List ℕ
 blocks xs = blocks_by (length xs) xs

@@ -10,6 +10,7 @@ pub record Row : Type 0 where
   pub given : List ℕ
   pub known : List ℕ
 
+-- a row of the table
 abbrev pub row : List ℕ → List ℕ → Row
 row a b = record { given = a; known = b }
 
@@ -30,6 +31,7 @@ u_bytes = 0x01 ∷ replicate 15 0
 abbrev pub dotted : List ℕ → List ℕ → List ℕ
 dotted a b = block_bytes (pdot (polynomial a) (polynomial b))
 
+-- what is known of the field and of spare bits
 unfoldable pub table : List Row
 table =
     row (block_bytes one) e_bytes
@@ -39,5 +41,6 @@ table =
     ∷ row (cleared 16 (0xFF ∷ 0xFF ∷ [])) (0xFF ∷ 0xFF ∷ [])
     ∷ []
 
+-- the table holds
 abbrev pub ValuesKnown : Type 0
 ValuesKnown = agree table ≡ true

@@ -38,6 +38,10 @@ part_is x i h = and-mod x (holes * 2 ^ i) 64 h
 abbrev pub wide_holes : ℕ
 wide_holes = 0x21084210842108421084210842108421
 
+-- the same from place k on, below x^128
+abbrev pub wide_from : ℕ → ℕ
+wide_from k = wide_holes * 2 ^ k % 2 ^ 128
+
 holes_are : ones 13 ≡ holes
 holes_are = refl
 
@@ -83,7 +87,7 @@ steps p w hp hw =
     ∙ ap (λ (m : ℕ). m * 2 ^ s) (and_comm (wide_holes / 2 ^ s) p ∙ low)
 
 -- at the places from k on, the integer product of two parts shows their product
-part_product : (x y k i j w : ℕ) → x < 2 ^ 64 → y < 2 ^ 64 → i + j ≡ k + 5 * w → w ≤ 1 → bit_and (part x i * part y j) (wide_holes * 2 ^ k % 2 ^ 128) ≡ product (part x i) (part y j)
+part_product : (x y k i j w : ℕ) → x < 2 ^ 64 → y < 2 ^ 64 → i + j ≡ k + 5 * w → w ≤ 1 → bit_and (part x i * part y j) (wide_from k) ≡ product (part x i) (part y j)
 part_product x y k i j w hx hy e hw =
     let a = bit_and (x / 2 ^ i) holes in
     let b = bit_and (y / 2 ^ j) holes in
@@ -105,11 +109,11 @@ part_product x y k i j w hx hy e hw =
     ∙ sym polynomials
 
 -- one product of parts more
-pub part_more : (x y k i sum : ℕ) → x < 2 ^ 64 → y < 2 ^ 64 → k < 5 → i < 5 → bit_and (sum ⊕ part x i * part y (opposite k i)) (wide_holes * 2 ^ k % 2 ^ 128) ≡ bit_and sum (wide_holes * 2 ^ k % 2 ^ 128) ⊕ product (part x i) (part y (opposite k i))
+pub part_more : (x y k i sum : ℕ) → x < 2 ^ 64 → y < 2 ^ 64 → k < 5 → i < 5 → bit_and (sum ⊕ part x i * part y (opposite k i)) (wide_from k) ≡ bit_and sum (wide_from k) ⊕ product (part x i) (part y (opposite k i))
 part_more x y k i sum hx hy hk hi =
     let j = opposite k i in
-    xor_and sum (part x i * part y j) (wide_holes * 2 ^ k % 2 ^ 128)
-    ∙ ap (bit_xor (bit_and sum (wide_holes * 2 ^ k % 2 ^ 128))) (part_product x y k i j ((i + j) / 5) hx hy (omega arith) (omega arith))
+    xor_and sum (part x i * part y j) (wide_from k)
+    ∙ ap (bit_xor (bit_and sum (wide_from k))) (part_product x y k i j ((i + j) / 5) hx hy (omega arith) (omega arith))
 
 -- ---- sums of parts
 

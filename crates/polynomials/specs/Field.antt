@@ -17,7 +17,7 @@ pub record Quotient (a b r : ℕ) : Type 0 where
   pub congruent : Congruent (product a b) (r * 2 ^ 128)
   pub only : (s : ℕ) → s < 2 ^ 128 → Congruent (product a b) (s * 2 ^ 128) → s ≡ r
 
--- x^128 less the modulus: x^127 + x^126 + x^121 + 1, which is 1 for pdot
+-- the remainder of x^128: x^127 + x^126 + x^121 + 1, which is the one of pdot
 abbrev pub one : ℕ
 one = 2 ^ 127 + 2 ^ 126 + 2 ^ 121 + 1
 

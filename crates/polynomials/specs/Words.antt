@@ -2,7 +2,7 @@
 use Rattle.std.specs.Prelude.{ℕ, zero, suc, ◌+◌, ◌*◌, ◌%◌, ◌^◌, bit_and}
 use Rattle.units.specs.Sums.{◌⊕◌}
 
--- every fifth place: 0, 5, 10 and so on up to 60
+-- the mask of every fifth place: 0, 5, 10 and so on up to 60
 abbrev pub holes : ℕ
 holes = 0x1084210842108421
 

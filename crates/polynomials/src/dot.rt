@@ -5,10 +5,10 @@ ghost use Rattle.polynomials.specs.Field.{FieldStands, Quotient, pdot};
 
 use super::words::product;
 
-/// The low word of a polynomial of 128 coefficients.
+/// The mask of the low word.
 const LOW: u128 = 0xFFFF_FFFF_FFFF_FFFF;
 
-/// The product of two polynomials below x^128, by x^-128, modulo x^128 + x^127 + x^126 + x^121 + 1.
+/// The product of two polynomials below x^128, times x^-128, modulo x^128 + x^127 + x^126 + x^121 + 1.
 ///
 /// With three products of words for four, and with the low half of the product divided by x^64 twice.
 pub fn pdot(a: u128, b: u128) -> u128
@@ -35,7 +35,7 @@ fn halves(v: u128) -> (u64, u64)
     ((v & LOW) as u64, (v >> 64) as u64)
 }
 
-/// Division by x^64. What stands below x^64 goes up by x^-64, which is x^64 + x^63 + x^62 + x^57.
+/// Division by x^64. What stands below x^64 is multiplied by x^-64, which is x^64 + x^63 + x^62 + x^57.
 #[tactic(auto, using(crate::proofs::ReductionLaws::divided_is))]
 fn divided(v: u128) -> u128
     ensures { remainder (result * 2 ^ 64) ≡ remainder v }

@@ -4,7 +4,7 @@
 //! integer product, which the five bits from that place to the next can count, so that no carry reaches the next place;
 //! and the low bit of each count is the coefficient. Integer products that have their coefficients at the same places are
 //! added bit by bit before the other bits are dropped.
-ghost use Rattle.std.specs.Prelude.{◌≡◌, ℕ, ◌+◌, ◌*◌, ◌%◌, ◌<◌};
+ghost use Rattle.std.specs.Prelude.{◌≡◌, ◌<◌};
 ghost use Rattle.polynomials.specs.Polynomials.{ProductStands, product};
 ghost use Rattle.polynomials.specs.Words.{opposite, part, sum_of};
 
