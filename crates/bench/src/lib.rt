@@ -14,10 +14,7 @@ use units::{BitString, Bits};
 pub extern "C" fn bench_fold(h: &[u8; 16], value: &mut [u8; 16], bits: u32, bytes: &[u8])
     ensures { value.new ≡ block_bytes (fold (polynomial h.now) (polynomial value.old) bits bytes.now) }
 {
-    let input = BitString {
-        bits: Bits(bits),
-        bytes,
-    };
+    let input = bit_string(bits, bytes);
     let folded = fold(Block::from_bytes(h), Block::from_bytes(value), input);
     *value = folded.to_bytes();
 }
@@ -41,13 +38,15 @@ pub extern "C" fn bench_tag(
         q: Block::from_bytes(q),
         p: Block::from_bytes(p),
     };
-    let aad = BitString {
-        bits: Bits(aad_bits),
-        bytes: aad,
-    };
-    let ciphertext = BitString {
+    keys.tag(bit_string(aad_bits, aad), bit_string(bits, ciphertext), out);
+}
+
+fn bit_string(bits: u32, bytes: &[u8]) -> BitString<'_>
+    ensures bits { result.bits.0 ≡ bits }
+    ensures bytes { result.bytes.now ≡ bytes.now }
+{
+    BitString {
         bits: Bits(bits),
-        bytes: ciphertext,
-    };
-    keys.tag(aad, ciphertext, out);
+        bytes,
+    }
 }

@@ -1,5 +1,5 @@
 -- The product of two words, by products of their coefficients at every fifth place.
-use Rattle.std.proofs.Common.{◌≡◌, ℕ, zero, suc, ◌+◌, ◌*◌, ◌/◌, ◌%◌, ◌^◌, ◌<◌, ◌≤◌, bit_and, bit_xor, sym, refl, ap, ◌∙◌, ap₂, lt_of_le_of_lt, add-zero, mod-lt, mod-eq_of_lt, add_comm, mul_assoc, arith, lit<, pow_pos, pow-add}
+use Rattle.std.proofs.Common.{◌≡◌, ℕ, zero, suc, ◌+◌, ◌*◌, ◌/◌, ◌%◌, ◌^◌, ◌<◌, ◌≤◌, bit_and, bit_xor, sym, refl, ap, ◌∙◌, ap₂, lt_of_le_of_lt, add-zero, mod-lt, mod-eq_of_lt, add-one, add_comm, mul_assoc, arith, lit<, pow_pos, pow-add}
 use Rattle.std.proofs.Math.Nat.{mul-mul-mul_comm}
 use Rattle.std.proofs.lemmas.Nat.Bits.{bit_at_and, bit_at_xor, same_from_bits}
 use Rattle.std.proofs.lemmas.Nat.{and_block, and_comm, and_le_l, and_le_r, and_mask, and_mod, mul-lt, shl-shr, shr_split}
@@ -116,6 +116,9 @@ part_more x y k i sum hx hy hk hi =
     ∙ ap (bit_xor (bit_and sum (wide_from k))) (part_product x y k i j ((i + j) / 5) hx hy (omega arith) (omega arith))
 
 -- ---- sums of parts
+
+pub sum_of_more : (n : ℕ) (f : ℕ → ℕ) → sum_of (n + 1) f ≡ sum_of n f ⊕ f n
+sum_of_more n f = rw add-one
 
 sum_of-zero : (n : ℕ) → sum_of n (λ k. 0) ≡ 0
 sum_of-zero zero = refl

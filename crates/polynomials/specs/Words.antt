@@ -1,4 +1,5 @@
--- A word's coefficients at every fifth place, which an integer product can take at a time.
+-- A word's coefficients at every fifth place, which an integer product can take at a time. Only private functions speak of
+-- them in their contracts.
 use Rattle.std.specs.Prelude.{ℕ, zero, suc, ◌+◌, ◌*◌, ◌%◌, ◌^◌, bit_and}
 use Rattle.units.specs.Sums.{◌⊕◌}
 

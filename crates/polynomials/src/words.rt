@@ -18,7 +18,7 @@ const HOLES: u64 = 0x1084_2108_4210_8421;
 const WIDE_HOLES: u128 = 0x2108_4210_8421_0842_1084_2108_4210_8421;
 
 /// The product of two polynomials of 64 coefficients each.
-#[tactic(auto, using(crate::proofs::WordLaws::parts_product, crate::proofs::ProductLaws::product_stands))]
+#[tactic(auto, using(crate::proofs::WordLaws::parts_product, crate::proofs::WordLaws::sum_of_more, crate::proofs::ProductLaws::product_stands))]
 pub fn product(x: u64, y: u64) -> u128
     ensures value { result ≡ product x y }
     ensures stands { ProductStands }
@@ -30,7 +30,8 @@ pub fn product(x: u64, y: u64) -> u128
     sum
 }
 
-/// The coefficients of the product at every fifth place from `place` on.
+/// The sum of the products of those parts of `x` and `y` whose places add up to `place`, or to that and five. It has the
+/// coefficients of the whole product at every fifth place from `place` on.
 #[tactic(auto, using(crate::proofs::WordLaws::part_more))]
 fn product_from(x: u64, y: u64, place: u32) -> u128
     requires { place < 5 }
@@ -38,7 +39,6 @@ fn product_from(x: u64, y: u64, place: u32) -> u128
 {
     let mut sum: u128 = 0;
     for i in 0..STEP {
-        // The two places add up to `place`, or to that and five.
         let j = (place + 4 * i) % STEP;
         sum ^= u128::from(part(x, i)) * u128::from(part(y, j));
     }
