@@ -1,0 +1,3 @@
+pub mod PlaneLaws
+pub mod ExchangeLaws
+pub mod SpreadLaws

@@ -1,0 +1,2 @@
+pub mod Planes
+pub mod Exchanges
