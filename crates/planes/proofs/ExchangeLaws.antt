@@ -1,24 +1,21 @@
 -- The bits that two planes exchange.
-use Rattle.std.proofs.Common.{◌≡◌, ℕ, zero, suc, ◌+◌, ◌-◌, ◌*◌, ◌/◌, ◌%◌, ◌^◌, ◌<◌, ◌≤◌, ◌==◌, true, List, length, get_or, replicate, ⊎_elim, sym, refl, ap, ◌∙◌, ap₂, mod-lt, arith, lit<, bit_and, bit_xor, min, pow_pos}
+use Rattle.std.proofs.Common.{◌≡◌, ℕ, zero, suc, ◌+◌, ◌-◌, ◌*◌, ◌/◌, ◌%◌, ◌^◌, ◌<◌, ◌≤◌, List, length, get_or, replicate, ⊎_elim, sym, refl, ap, ◌∙◌, ap₂, mod-lt, arith, lit<, bit_and, bit_xor, min}
 use Rattle.std.specs.Simd.Lanes.{zip2}
-use Rattle.std.proofs.lemmas.Bool.{agree_below, agree_below_at, cases_lt, eqb-true}
+use Rattle.std.proofs.lemmas.Bool.{cases_lt}
 use Rattle.std.proofs.Math.Nat.{div-eq_of_lt, div-eq-sub-div}
-use Rattle.std.proofs.lemmas.Nat.{div-add-mod', shr-shr, xor_mod, xor_shr}
-use Rattle.std.proofs.lemmas.Nat.Bits.{bit_at-zero, bit_at_and, bit_at_cat_high, bit_at_cat_low, bit_at-lt}
+use Rattle.std.proofs.lemmas.Nat.{shr-shr}
+use Rattle.std.proofs.lemmas.Nat.Bits.{bit_at_and, bit_at-lt}
 use Rattle.std.specs.Int.{bit_at}
 use Rattle.std.specs.Int.Bits.{xor_zero_r}
-use Rattle.std.proofs.lemmas.Simd.{get_or-replicate, get_or-zip2, length-zip2}
+use Rattle.std.proofs.lemmas.Simd.{get_or-replicate}
 use Rattle.units.specs.Sums.{◌⊕◌}
 use Rattle.units.proofs.SumLaws.{bit_either, terms, xor_cancel}
 use Rattle.planes.specs.declared.Planes.{Planes}
+use Rattle.planes.proofs.BitLaws.{bit_at-mod, bit_at_sum, four, lane, same_below, shl, shl_high, shl_low, shr}
 use Rattle.planes.specs.Planes.{bit}
 use Rattle.planes.specs.Exchanges.{Exchanged, Masks, Stage, Transposed, either, plane, with_bit}
 
--- ---- computed tests
-
--- two functions that agree at each number below n; at a written-out n the test computes
-pub same_below : (f g : ℕ → ℕ) (n : ℕ) → agree_below (λ k. f k == g k) (λ _. true) n ≡ true → (k : ℕ) → k < n → f k ≡ g k
-same_below f g n h k l = eqb-true (f k) (g k) (agree_below_at (λ k. f k == g k) (λ _. true) n k h l)
+-- ---- masks
 
 pub masks_one : Masks 1 0x55555555
 masks_one = same_below (λ k. 0x55555555 / 2 ^ k % 2 + k / 1 % 2) (λ _. 1) 32 refl
@@ -28,22 +25,6 @@ masks_two = same_below (λ k. 0x33333333 / 2 ^ k % 2 + k / 2 % 2) (λ _. 1) 32 r
 
 pub masks_four : Masks 4 0x0F0F0F0F
 masks_four = same_below (λ k. 0x0F0F0F0F / 2 ^ k % 2 + k / 4 % 2) (λ _. 1) 32 refl
-
--- ---- bits of a number
-
-pub bit_at_sum : (a b k : ℕ) → bit_at (a ⊕ b) k ≡ bit_at a k ⊕ bit_at b k
-bit_at_sum a b k = ap (λ (n : ℕ). n % 2) (xor_shr a b k) ∙ xor_mod (a / 2 ^ k) (b / 2 ^ k) 1
-
--- what is cut off above leaves the bits below
-pub bit_at-mod : (a w k : ℕ) → k < w → bit_at (a % 2 ^ w) k ≡ bit_at a k
-bit_at-mod a w k h = sym (bit_at_cat_low (a / 2 ^ w) w (a % 2 ^ w) k h) ∙ ap (λ (n : ℕ). bit_at n k) (div-add-mod' a (2 ^ w))
-
-shl_low : (a n k : ℕ) → k < n → bit_at (a * 2 ^ n) k ≡ 0
-shl_low a n k h = ap (λ (m : ℕ). bit_at m k) (let e : a * 2 ^ n ≡ a * 2 ^ n + 0 = omega arith in e) ∙ bit_at_cat_low a n 0 k h ∙ bit_at-zero k
-
-shl_high : (a n k : ℕ) → n ≤ k → bit_at (a * 2 ^ n) k ≡ bit_at a (k - n)
-shl_high a n k h =
-    ap (λ (m : ℕ). bit_at m k) (let e : a * 2 ^ n ≡ a * 2 ^ n + 0 = omega arith in e) ∙ bit_at_cat_high a n 0 k (pow_pos n) h
 
 -- ---- in one lane
 
@@ -122,22 +103,9 @@ module _ (n mask a b : ℕ) (positive : 0 < n) (masks : Masks n mask) where
 
 -- ---- in four lanes
 
--- a lane of what is computed lane by lane from two vectors, and how many lanes it has
-lane : (f : ℕ → ℕ → ℕ) (xs ys : List ℕ) (row : ℕ) → row < 4 → length xs ≡ 4 → length ys ≡ 4 → get_or (zip2 f xs ys) row 0 ≡ f (get_or xs row 0) (get_or ys row 0)
-lane f xs ys row h l m = get_or-zip2 f xs ys row 0 0 0 (omega arith) (omega arith)
-
-four : (f : ℕ → ℕ → ℕ) (xs ys : List ℕ) → length xs ≡ 4 → length ys ≡ 4 → length (zip2 f xs ys) ≡ 4
-four f xs ys l m = length-zip2 f xs ys (l ∙ sym m) ∙ l
-
 bit_of_either : (row place u : ℕ) (c d : List ℕ) → bit row place (either c d u) ≡ bit_at (either (get_or c row 0) (get_or d row 0) u) place
 bit_of_either row place zero c d = refl
 bit_of_either row place (suc u) c d = refl
-
-abbrev pub shr : ℕ → ℕ → ℕ
-shr x y = x / 2 ^ y
-
-abbrev pub shl : ℕ → ℕ → ℕ
-shl x y = x * 2 ^ y % 2 ^ 32
 
 abbrev pub lanes_changed : ℕ → ℕ → List ℕ → List ℕ → List ℕ
 lanes_changed n mask a b = zip2 bit_and (zip2 bit_xor (zip2 shr a (replicate 4 n)) b) (replicate 4 mask)

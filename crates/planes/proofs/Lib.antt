@@ -1,3 +1,4 @@
+pub mod BitLaws
 pub mod PlaneLaws
 pub mod ExchangeLaws
 pub mod SpreadLaws

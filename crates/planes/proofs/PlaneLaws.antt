@@ -56,7 +56,7 @@ sum_of_planes row place (p ∷ ps) (q ∷ qs) h e f g =
     ap₂ (λ (x n : ℕ). x + 2 * n) (bit_xor_lanes row place p q h f.0 g.0) (sum_of_planes row place ps qs h (omega arith) f.1 g.1)
     ∙ bit_front (bit row place p) (bit row place q) _ _ (mod-lt _ (lit< tt)) (mod-lt _ (lit< tt))
 
-sums_of_maps : (f g : ℕ → ℕ) (ks : List ℕ) → sums (map f ks) (map g ks) ≡ map (λ k. f k ⊕ g k) ks
+pub sums_of_maps : (f g : ℕ → ℕ) (ks : List ℕ) → sums (map f ks) (map g ks) ≡ map (λ k. f k ⊕ g k) ks
 sums_of_maps f g ks = sums_is (map f ks) (map g ks) ∙ zip2-map bit_xor f g ks
 
 -- each plane has four lanes

@@ -12,7 +12,8 @@ use Rattle.units.specs.Strings.{Octets}
 use Rattle.planes.specs.declared.Planes.{Planes}
 use Rattle.planes.specs.Planes.{bit, planes, states}
 use Rattle.planes.specs.Exchanges.{Spread, Transposed, plane}
-use Rattle.planes.proofs.ExchangeLaws.{below_eight, bit_at-mod, same_below}
+use Rattle.planes.proofs.BitLaws.{bit_at-mod, same_below}
+use Rattle.planes.proofs.ExchangeLaws.{below_eight}
 use Rattle.planes.proofs.PlaneLaws.{map_same, states_from}
 
 all_of : {X : Type 0} (xs : List X) (n : ℕ) (d : X) → length xs ≡ n → map (λ k. get_or xs k d) (range_with_len 0 n) ≡ xs

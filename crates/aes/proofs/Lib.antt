@@ -1,0 +1,2 @@
+pub mod Example
+pub mod StepLaws

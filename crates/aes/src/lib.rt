@@ -1,0 +1,4 @@
+//! AES-256 of FIPS 197, eight blocks at a time, with no branch and no address that depends on a key or on a block.
+#![tactic(auto)]
+
+pub mod steps;

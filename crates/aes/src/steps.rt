@@ -1,0 +1,88 @@
+//! The steps of a round, on eight states at a time. SubBytes is `byte_field::sub_bytes`.
+ghost use Rattle.std.specs.Prelude.{◌≡◌, map};
+ghost use Rattle.planes.specs.Planes.{states};
+ghost use Rattle.aes.specs.Cipher.{mix_columns, shift_rows};
+ghost use Rattle.aes.specs.Steps.{Moved, next_column, row_below, same_column, same_row, turned};
+
+use byte_field::doubled;
+use planes::Planes;
+use std::simd::prelude::*;
+
+/// ShiftRows.
+#[tactic(auto, using(crate::proofs::StepLaws::rows_shifted))]
+pub fn shift_rows(q: Planes) -> Planes
+    ensures { states result ≡ map shift_rows (states q) }
+{
+    Planes {
+        p0: shift_row(q.p0),
+        p1: shift_row(q.p1),
+        p2: shift_row(q.p2),
+        p3: shift_row(q.p3),
+        p4: shift_row(q.p4),
+        p5: shift_row(q.p5),
+        p6: shift_row(q.p6),
+        p7: shift_row(q.p7),
+    }
+}
+
+/// Row `r`, which is lane `r`, goes `r` columns of eight bits down.
+fn shift_row(x: u32x4) -> u32x4
+    ensures { Moved same_row next_column x result }
+{
+    (x >> u32x4::from_array([0, 8, 16, 24])) | (x << u32x4::from_array([0, 24, 16, 8]))
+}
+
+/// MixColumns. A byte is the sum of the three below it in its column, and of x times the byte and the next.
+pub fn mix_columns(q: Planes) -> Planes
+    ensures { states result ≡ map mix_columns (states q) }
+{
+    let next = one_row_up(q);
+    let pairs = q ^ next;
+    next ^ two_rows_up(pairs) ^ doubled(pairs)
+}
+
+/// Each row one place up, the uppermost to the bottom.
+#[tactic(auto, using(crate::proofs::StepLaws::rows_turned))]
+fn one_row_up(q: Planes) -> Planes
+    ensures { states result ≡ map (turned 1) (states q) }
+{
+    Planes {
+        p0: next_lane(q.p0),
+        p1: next_lane(q.p1),
+        p2: next_lane(q.p2),
+        p3: next_lane(q.p3),
+        p4: next_lane(q.p4),
+        p5: next_lane(q.p5),
+        p6: next_lane(q.p6),
+        p7: next_lane(q.p7),
+    }
+}
+
+/// Each row two places up.
+#[tactic(auto, using(crate::proofs::StepLaws::rows_turned))]
+fn two_rows_up(q: Planes) -> Planes
+    ensures { states result ≡ map (turned 2) (states q) }
+{
+    Planes {
+        p0: lane_after_next(q.p0),
+        p1: lane_after_next(q.p1),
+        p2: lane_after_next(q.p2),
+        p3: lane_after_next(q.p3),
+        p4: lane_after_next(q.p4),
+        p5: lane_after_next(q.p5),
+        p6: lane_after_next(q.p6),
+        p7: lane_after_next(q.p7),
+    }
+}
+
+fn next_lane(x: u32x4) -> u32x4
+    ensures { Moved (row_below 1) same_column x result }
+{
+    x.swizzle([1, 2, 3, 0])
+}
+
+fn lane_after_next(x: u32x4) -> u32x4
+    ensures { Moved (row_below 2) same_column x result }
+{
+    x.swizzle([2, 3, 0, 1])
+}

@@ -1,0 +1,7 @@
+pub mod Bits
+pub mod EveryByte
+pub mod ByteFieldLaws
+pub mod SboxLaws
+pub mod Wires
+pub mod OnPlanes
+pub mod Circuits

@@ -1,0 +1,2 @@
+pub mod ByteField
+pub mod Sbox
