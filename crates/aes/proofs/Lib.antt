@@ -1,2 +1,4 @@
 pub mod Example
+pub mod KeyLaws
 pub mod StepLaws
+pub mod CipherLaws

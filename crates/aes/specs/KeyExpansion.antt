@@ -48,10 +48,14 @@ words key = map (λ i. take 4 (drop (4 * i) key)) (range_with_len 0 8)
 unfoldable pub key_expansion : List ℕ → List (List ℕ)
 key_expansion key = expanded 52 (words key)
 
--- the fifteen round keys, four words to each
-unfoldable pub round_keys : List (List ℕ) → List (List ℕ)
-round_keys ws = map (λ r. flat_map (λ w. w) (take 4 (drop (4 * r) ws))) (range_with_len 0 15)
+-- round key r: words 4 r to 4 r + 3
+abbrev pub round_key_of : List (List ℕ) → ℕ → List ℕ
+round_key_of ws r = flat_map (λ w. w) (take 4 (drop (4 * r) ws))
+
+-- the fifteen round keys of a key
+unfoldable pub round_keys_of : List ℕ → List (List ℕ)
+round_keys_of key = map (round_key_of (key_expansion key)) (range_with_len 0 15)
 
 -- AES-256: the encryption of a block
 unfoldable pub aes256 : List ℕ → List ℕ → List ℕ
-aes256 key block = cipher (round_keys (key_expansion key)) block
+aes256 key block = cipher (round_keys_of key) block

@@ -1,3 +1,4 @@
 pub mod Cipher
 pub mod KeyExpansion
+pub mod RoundKeys
 pub mod Steps

@@ -1,0 +1,89 @@
+-- The cipher on planes, round by round.
+use Rattle.std.proofs.Common.{◌≡◌, ℕ, suc, ◌+◌, ◌-◌, ◌<◌, ◌≤◌, List, [], ◌∷◌, ◌++◌, map, length, get_or, take, set, sym, refl, ap, ◌∙◌, ap₂, arith}
+use Rattle.std.specs.List.{range_with_len}
+use Rattle.std.proofs.lemmas.List.{get_or-map, map-append, take_all, take_more_set}
+use Rattle.std.proofs.lemmas.List.FromFn.{map-range_with_len_more}
+use Rattle.std.proofs.lemmas.Simd.{map-map}
+use Rattle.planes.specs.declared.Planes.{Planes}
+use Rattle.planes.specs.Planes.{states}
+use Rattle.byte_field.specs.Sbox.{sbox}
+use Rattle.aes.specs.Cipher.{add_round_key, cipher, mix_columns, round, round_key, rounds, shift_rows}
+use Rattle.aes.specs.KeyExpansion.{aes256, key_expansion, round_key_of, round_keys_of}
+use Rattle.aes.specs.RoundKeys.{key_of}
+use Rattle.aes.specs.declared.round_keys.RoundKey.{RoundKey}
+
+-- ---- the round keys
+
+-- the first n round keys of words
+unfoldable pub first_keys : List (List ℕ) → ℕ → List (List ℕ)
+first_keys ws n = map (round_key_of ws) (range_with_len 0 n)
+
+pub no_keys : (ws : List (List ℕ)) → [] ≡ first_keys ws 0
+unfolding first_keys
+no_keys ws = refl
+
+pub key_more :
+    (ws : List (List ℕ)) (ks : List RoundKey) (r : ℕ) (k : RoundKey) → length ks ≡ 15 → r < 15
+    → map key_of (take r ks) ≡ first_keys ws r
+    → key_of k ≡ round_key_of ws r
+    → map key_of (take (r + 1) (set ks r k)) ≡ first_keys ws (r + 1)
+unfolding first_keys
+key_more ws ks r k l h e f =
+    ap (map key_of) (take_more_set ks r k (omega arith))
+    ∙ map-append key_of (take r ks) (k ∷ [])
+    ∙ ap₂ (λ (vs : List (List ℕ)) (v : List ℕ). vs ++ v ∷ []) e f
+    ∙ sym (map-range_with_len_more (round_key_of ws) 0 r r (omega arith))
+
+pub all_keys :
+    (key : List ℕ) (ws : List (List ℕ)) (ks : List RoundKey) (r : ℕ) → length ks ≡ 15 → r ≡ 15 → ws ≡ key_expansion key
+    → map key_of (take r ks) ≡ first_keys ws r → map key_of ks ≡ round_keys_of key
+unfolding first_keys round_keys_of
+all_keys key ws ks r l h w e =
+    ap (map key_of) (sym (take_all 15 ks (omega arith)) ∙ ap (λ (n : ℕ). take n ks) (sym h))
+    ∙ e
+    ∙ ap₂ (λ (us : List (List ℕ)) (n : ℕ). map (round_key_of us) (range_with_len 0 n)) w h
+
+pub key_at : (key : List ℕ) (rks : List RoundKey) (r : ℕ) (d : RoundKey) → map key_of rks ≡ round_keys_of key → r < length rks → key_of (get_or rks r d) ≡ round_key (round_keys_of key) r
+key_at key rks r d e h = sym (get_or-map key_of rks r d [] h) ∙ ap (λ (ks : List (List ℕ)). get_or ks r []) e
+
+-- ---- the rounds
+
+module _ (key : List ℕ) (blocks : List (List ℕ)) where
+  pub first_round : (k : List ℕ) (from q : Planes) → k ≡ round_key (round_keys_of key) 0 → states from ≡ blocks → states q ≡ map (add_round_key k) (states from) → states q ≡ map (rounds (round_keys_of key) 0) blocks
+  unfolding rounds
+  first_round k from q e f g = g ∙ ap₂ (λ (k : List ℕ) (ss : List (List ℕ)). map (add_round_key k) ss) e f
+
+  pub next_round :
+      (r : ℕ) (k : List ℕ) (q b s m q' : Planes) → 1 ≤ r → k ≡ round_key (round_keys_of key) r
+      → states q ≡ map (rounds (round_keys_of key) (r - 1)) blocks
+      → states b ≡ map (map sbox) (states q)
+      → states s ≡ map shift_rows (states b)
+      → states m ≡ map mix_columns (states s)
+      → states q' ≡ map (add_round_key k) (states m)
+      → states q' ≡ map (rounds (round_keys_of key) (r + 1 - 1)) blocks
+  unfolding rounds
+  next_round r k q b s m q' h e f eb es em eq =
+      eq
+      ∙ ap (map (add_round_key k)) (em ∙ ap (map mix_columns) (es ∙ ap (map shift_rows) (eb ∙ ap (map (map sbox)) f ∙ map-map (map sbox) (rounds (round_keys_of key) (r - 1)) blocks)
+      ∙ map-map shift_rows (λ x. map sbox (rounds (round_keys_of key) (r - 1) x)) blocks)
+      ∙ map-map mix_columns (λ x. shift_rows (map sbox (rounds (round_keys_of key) (r - 1) x))) blocks)
+      ∙ map-map (add_round_key k) (λ x. mix_columns (shift_rows (map sbox (rounds (round_keys_of key) (r - 1) x)))) blocks
+      ∙ ap (λ (k : List ℕ). map (λ x. round k (rounds (round_keys_of key) (r - 1) x)) blocks) (e ∙ ap (round_key (round_keys_of key)) (let n : r ≡ suc (r - 1) = omega arith in n))
+      ∙ ap (λ (n : ℕ). map (rounds (round_keys_of key) n) blocks) (let n : suc (r - 1) ≡ r + 1 - 1 = omega arith in n)
+
+  pub last_round :
+      (r : ℕ) (k : List ℕ) (q b s last : Planes) (out : List (List ℕ)) → r ≡ 14 → k ≡ round_key (round_keys_of key) 14
+      → states q ≡ map (rounds (round_keys_of key) (r - 1)) blocks
+      → states b ≡ map (map sbox) (states q)
+      → states s ≡ map shift_rows (states b)
+      → states last ≡ map (add_round_key k) (states s)
+      → out ≡ states last
+      → out ≡ map (aes256 key) blocks
+  unfolding aes256 cipher
+  last_round r k q b s last out h e f eb es el eo =
+      eo
+      ∙ el
+      ∙ ap (map (add_round_key k)) (es ∙ ap (map shift_rows) (eb ∙ ap (map (map sbox)) (f ∙ ap (λ (n : ℕ). map (rounds (round_keys_of key) (n - 1)) blocks) h) ∙ map-map (map sbox) (rounds (round_keys_of key) 13) blocks)
+      ∙ map-map shift_rows (λ x. map sbox (rounds (round_keys_of key) 13 x)) blocks)
+      ∙ map-map (add_round_key k) (λ x. shift_rows (map sbox (rounds (round_keys_of key) 13 x))) blocks
+      ∙ ap (λ (k : List ℕ). map (λ x. add_round_key k (shift_rows (map sbox (rounds (round_keys_of key) 13 x)))) blocks) e

@@ -1,0 +1,67 @@
+//! The cipher of AES-256.
+ghost use Rattle.std.specs.Prelude.{◌≡◌, ◌<◌, map};
+ghost use Rattle.planes.specs.Planes.{states};
+ghost use Rattle.aes.specs.Cipher.{round};
+ghost use Rattle.aes.specs.KeyExpansion.{round_key_of, round_keys_of};
+ghost use Rattle.aes.specs.RoundKeys.{key_of};
+
+use super::key_expansion::key_expansion;
+use super::round_keys::RoundKey;
+use super::steps::{mix_columns, shift_rows};
+use byte_field::sub_bytes;
+use planes::Planes;
+
+/// How many round keys AES-256 has.
+const ROUND_KEYS: usize = 15;
+
+/// The last round, the only one without MixColumns.
+const LAST_ROUND: usize = 14;
+
+/// AES-256 under one key. The round keys are made once. All of it is secret, so it has neither `Debug` nor equality.
+#[derive(Clone, Copy)]
+pub struct Aes256 {
+    key: [u8; 32],
+    round_keys: [RoundKey; 15],
+    ghost expanded: { map key_of round_keys ≡ round_keys_of key },
+}
+
+impl Aes256 {
+    ghost use Rattle.aes.specs.KeyExpansion.{aes256};
+
+    /// AES-256 under a key.
+    pub fn new(key: &[u8; 32]) -> Aes256
+        ensures { result.key ≡ key.now }
+    {
+        let words = key_expansion(key);
+        let mut round_keys = [RoundKey::new([0; 16]); ROUND_KEYS];
+        for round in 0..ROUND_KEYS {
+            round_keys[round] = RoundKey::new(round_key(&words, round));
+        }
+        Aes256 {
+            key: *key,
+            round_keys,
+        }
+    }
+
+    /// The encryptions of eight blocks.
+    pub fn encrypt_eight(&self, blocks: &[[u8; 16]; 8]) -> [[u8; 16]; 8]
+        ensures { result ≡ map (aes256 self.now.key) blocks.now }
+    {
+        let mut q = self.round_keys[0].add_to(Planes::from_blocks(blocks));
+        for round in 1..LAST_ROUND {
+            q = self.round_keys[round].add_to(mix_columns(shift_rows(sub_bytes(q))));
+        }
+        let last = self.round_keys[LAST_ROUND].add_to(shift_rows(sub_bytes(q)));
+        last.to_blocks()
+    }
+}
+
+/// The sixteen bytes of a round key: four words.
+fn round_key(words: &[[u8; 4]; 60], round: usize) -> [u8; 16]
+    requires { round < 15 }
+    ensures { result ≡ round_key_of words.now round }
+{
+    let mut bytes = [0; 16];
+    bytes.copy_from_slice(words[4 * round..4 * round + 4].as_flattened());
+    bytes
+}
