@@ -1,16 +1,14 @@
 -- The steps of a round on planes are those of each state.
-use Rattle.std.proofs.Common.{◌≡◌, ℕ, ◌+◌, ◌-◌, ◌*◌, ◌/◌, ◌%◌, ◌^◌, ◌<◌, ◌≤◌, List, [], ◌∷◌, map, length, get_or, ◌⊎◌, inl, inr, ⊎_elim, sym, refl, ap, ◌∙◌, ap₂, arith, bit_or, max, map-id}
+use Rattle.std.proofs.Common.{◌≡◌, ℕ, ◌+◌, ◌*◌, ◌/◌, ◌%◌, ◌^◌, ◌<◌, List, [], ◌∷◌, map, length, get_or, sym, refl, ap, ◌∙◌, ap₂, arith, map-id}
 use Rattle.std.specs.Int.{bit_at}
 use Rattle.std.specs.List.{range_with_len}
 use Rattle.std.specs.Simd.Lanes.{Each1, number_l, zip2}
-use Rattle.std.proofs.lemmas.Bool.{cases_lt}
 use Rattle.std.proofs.lemmas.List.FromFn.{fill_by_all, get_or-map-range_with_len}
-use Rattle.std.proofs.lemmas.Nat.{shr-shr}
-use Rattle.std.proofs.lemmas.Simd.{Each1-get_or, map-map, zip2_of_maps}
-use Rattle.std.proofs.lemmas.Nat.Bits.{bit_at_above, bit_at_or}
+use Rattle.std.proofs.lemmas.Simd.{map-map, zip2_of_maps}
 use Rattle.planes.specs.declared.Planes.{Planes}
 use Rattle.planes.specs.Planes.{byte, state, states}
-use Rattle.planes.proofs.BitLaws.{bit_at-mod, four, lane, same_below, shl, shl_high, shl_low, shr}
+use Rattle.planes.proofs.LaneLaws.{Octets-bytes_of, Octets-picked, bit_of_bytes, bit_of_lanes, bytes_of, lanes_of, picked, picked_at}
+use Rattle.planes.proofs.BitLaws.{same_below}
 use Rattle.planes.proofs.PlaneLaws.{map_same, sums_of_maps, number, states_from}
 use Rattle.units.specs.Sums.{◌⊕◌, sums}
 use Rattle.units.proofs.SumLaws.{terms}
@@ -65,50 +63,20 @@ pub rows_shifted :
 unfolding shift_rows
 rows_shifted p q = bytes_moved same_row next_column (λ r h. h) (λ r c h l. omega arith) p q
 
-larger : (m n t : ℕ) → (n ≡ 0) ⊎ (n ≡ t) → m ≡ t → max m n ≡ t
-larger m n t (inl e) f = omega arith
-larger m n t (inr e) f = omega arith
+abbrev columns : List ℕ
+columns = 0 ∷ 1 ∷ 2 ∷ 3 ∷ 5 ∷ 6 ∷ 7 ∷ 4 ∷ 10 ∷ 11 ∷ 8 ∷ 9 ∷ 15 ∷ 12 ∷ 13 ∷ 14 ∷ []
 
--- the lane of a row, rotated
-rotated : (x row k : ℕ) → row < 4 → x < 2 ^ 32 → k < 32 → bit_at (bit_or (shr x (8 * row)) (shl x ((32 - 8 * row) % 32))) k ≡ bit_at x ((k + 8 * row) % 32)
-rotated x row k h small l =
-    let s = 8 * row in
-    let u = (32 - 8 * row) % 32 in
-    let t = (k + s) % 32 in
-    let right : bit_at (shr x s) k ≡ bit_at x (s + k) = ap (λ (n : ℕ). n % 2) (shr-shr x s k) in
-    let left : bit_at (shl x u) k ≡ bit_at (x * 2 ^ u) k = bit_at-mod (x * 2 ^ u) 32 k l in
-    bit_at_or (shr x s) (shl x u) k
-    ∙ ⊎_elim
-    (λ (low : s + k < 32).
-    let here = right ∙ ap (bit_at x) (let e : s + k ≡ t = omega arith in e) in
-    ⊎_elim
-    (λ (none : k < u). let e = left ∙ shl_low x u k none in larger _ _ _ (inl e) here)
-    (λ (some : u ≤ k). larger _ _ _ (inr (left ∙ shl_high x u k some ∙ ap (bit_at x) (let e : k - u ≡ t = omega arith in e))) here)
-    (cases_lt k u))
-    (λ (high : 32 ≤ s + k).
-    let none = right ∙ bit_at_above x 32 (s + k) small high in
-    let there = left ∙ shl_high x u k (omega arith) ∙ ap (bit_at x) (let e : k - u ≡ t = omega arith in e) in
-    (let e : max (bit_at (shr x s) k) (bit_at (shl x u) k) ≡ bit_at x t = omega arith in e))
-    (cases_lt (s + k) 32)
+columns_at : (m : ℕ) → m < 16 → get_or columns m 0 ≡ m / 4 * 4 + (m % 4 + m / 4) % 4
+columns_at = same_below (λ m. get_or columns m 0) (λ m. m / 4 * 4 + (m % 4 + m / 4) % 4) 16 refl
 
-shifts_right : (row : ℕ) → row < 4 → get_or (0 ∷ 8 ∷ 16 ∷ 24 ∷ []) row 0 ≡ 8 * row
-shifts_right = same_below (λ row. get_or (0 ∷ 8 ∷ 16 ∷ 24 ∷ []) row 0) (λ row. 8 * row) 4 refl
-
-shifts_left : (row : ℕ) → row < 4 → get_or (0 ∷ 24 ∷ 16 ∷ 8 ∷ []) row 0 ≡ (32 - 8 * row) % 32
-shifts_left = same_below (λ row. get_or (0 ∷ 24 ∷ 16 ∷ 8 ∷ []) row 0) (λ row. (32 - 8 * row) % 32) 4 refl
-
-pub row_shifted : (x : List ℕ) → length x ≡ 4 → Each1 (λ lane. lane < 2 ^ 32) x
-    → Moved same_row next_column x (zip2 bit_or (zip2 shr x (0 ∷ 8 ∷ 16 ∷ 24 ∷ [])) (zip2 shl x (0 ∷ 24 ∷ 16 ∷ 8 ∷ [])))
-row_shifted x size small = record {
+pub row_shifted : (x : List ℕ) → Each1 (λ lane. lane < 2 ^ 32) x → Moved same_row next_column x (lanes_of (picked (bytes_of x) columns))
+row_shifted x small = record {
   moved = λ r c b lr lc lb.
-      let k = 8 * c + b in
-      ap (λ (n : ℕ). bit_at n k)
-      (lane bit_or (zip2 shr x (0 ∷ 8 ∷ 16 ∷ 24 ∷ [])) (zip2 shl x (0 ∷ 24 ∷ 16 ∷ 8 ∷ [])) r lr (four shr x (0 ∷ 8 ∷ 16 ∷ 24 ∷ []) size refl) (four shl x (0 ∷ 24 ∷ 16 ∷ 8 ∷ []) size refl)
-      ∙ ap₂ bit_or
-      (lane shr x (0 ∷ 8 ∷ 16 ∷ 24 ∷ []) r lr size refl ∙ ap (shr (get_or x r 0)) (shifts_right r lr))
-      (lane shl x (0 ∷ 24 ∷ 16 ∷ 8 ∷ []) r lr size refl ∙ ap (shl (get_or x r 0)) (shifts_left r lr)))
-      ∙ rotated (get_or x r 0) r k lr (Each1-get_or (λ lane. lane < 2 ^ 32) x r 0 (omega arith) small) (omega arith)
-      ∙ ap (bit_at (get_or x r 0)) (let e : (k + 8 * r) % 32 ≡ 8 * ((c + r) % 4) + b = omega arith in e);
+      let m = 4 * r + c in
+      let at : get_or columns m 0 ≡ 4 * r + (c + r) % 4 = columns_at m (omega arith) ∙ (let e : m / 4 * 4 + (m % 4 + m / 4) % 4 ≡ 4 * r + (c + r) % 4 = omega arith in e) in
+      bit_of_lanes (picked (bytes_of x) columns) r c b (Octets-picked (bytes_of x) columns (Octets-bytes_of x)) lr lc lb
+      ∙ ap (λ (n : ℕ). bit_at n b) (picked_at (bytes_of x) columns m refl (omega arith) (omega (arith, at)) ∙ ap (λ (k : ℕ). get_or (bytes_of x) k 0) at)
+      ∙ bit_of_bytes x r ((c + r) % 4) b small lr (omega arith) lb;
 }
 
 -- ---- MixColumns

@@ -25,11 +25,13 @@ pub fn shift_rows(q: Planes) -> Planes
     }
 }
 
-/// Row `r`, which is lane `r`, goes `r` columns of eight bits down.
+/// Where each byte of the lanes comes from: lane `r` is row `r`, and its columns go `r` places on.
+const COLUMNS: [usize; 16] = [0, 1, 2, 3, 5, 6, 7, 4, 10, 11, 8, 9, 15, 12, 13, 14];
+
 fn shift_row(x: u32x4) -> u32x4
     ensures { Moved same_row next_column x result }
 {
-    (x >> u32x4::from_array([0, 8, 16, 24])) | (x << u32x4::from_array([0, 24, 16, 8]))
+    u32x4::from_le_bytes(x.to_le_bytes().swizzle(COLUMNS))
 }
 
 /// MixColumns. A byte is the sum of the three below it in its column, and of x times the byte and the next.

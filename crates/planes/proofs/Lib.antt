@@ -1,4 +1,5 @@
 pub mod BitLaws
 pub mod PlaneLaws
 pub mod ExchangeLaws
+pub mod LaneLaws
 pub mod SpreadLaws
