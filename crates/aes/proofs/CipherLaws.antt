@@ -1,7 +1,8 @@
 -- The cipher on planes, round by round.
-use Rattle.std.proofs.Common.{◌≡◌, ℕ, suc, ◌+◌, ◌-◌, ◌<◌, ◌≤◌, List, [], ◌∷◌, ◌++◌, map, length, get_or, take, set, sym, refl, ap, ◌∙◌, ap₂, arith}
+use Rattle.std.proofs.Common.{◌≡◌, ℕ, suc, ◌+◌, ◌-◌, ◌<◌, ◌≤◌, List, [], ◌∷◌, ◌++◌, map, length, get_or, take, drop, drop-drop, length-drop, take-add, take-append-drop, length-append, append_assoc, set, sym, refl, ap, ◌∙◌, ap₂, arith}
 use Rattle.std.specs.List.{range_with_len}
-use Rattle.std.proofs.lemmas.List.{get_or-map, map-append, take_all, take_more_set}
+use borrow.Rule.Slice.PartMut.{put_mid}
+use Rattle.std.proofs.lemmas.List.{drop_at, take_at, length-map, length-take-le, get_or-map, map-append, take_all, take_more_set}
 use Rattle.std.proofs.lemmas.List.FromFn.{map-range_with_len_more}
 use Rattle.std.proofs.lemmas.Simd.{map-map}
 use Rattle.planes.specs.declared.Planes.{Planes}
@@ -87,3 +88,35 @@ module _ (key : List ℕ) (blocks : List (List ℕ)) where
       ∙ map-map shift_rows (λ x. map sbox (rounds (round_keys_of key) 13 x)) blocks)
       ∙ map-map (add_round_key k) (λ x. shift_rows (map sbox (rounds (round_keys_of key) 13 x))) blocks
       ∙ ap (λ (k : List ℕ). map (λ x. add_round_key k (shift_rows (map sbox (rounds (round_keys_of key) 13 x)))) blocks) e
+
+-- ---- batches
+
+-- after d blocks of bs the next n are encrypted: b is what stands there before, and `out` what is written over the n
+pub batch_done :
+    (f : List ℕ → List ℕ) (bs b new rest result out : List (List ℕ)) (d n : ℕ) → d + n ≤ length b
+    → b ≡ map f (take d bs) ++ drop d bs
+    → new ≡ take (d + n - d) (drop d b)
+    → result ≡ map f (new ++ rest)
+    → out ≡ take n result
+    → put_mid d (d + n - d) b out ≡ map f (take (d + n) bs) ++ drop (d + n) bs
+batch_done f bs b new rest result out d n low eb en er eo =
+    let all : length b ≡ length bs =
+    ap length eb
+    ∙ length-append (map f (take d bs)) (drop d bs)
+    ∙ ap (λ (k : ℕ). k + length (drop d bs)) (length-map (take d bs) f)
+    ∙ sym (length-append (take d bs) (drop d bs))
+    ∙ ap length (take-append-drop d bs)
+    in
+    let h : d + n ≤ length bs = omega arith in
+    let size : length (map f (take d bs)) ≡ d = length-map (take d bs) f ∙ length-take-le d bs (omega arith) in
+    let front : take d b ≡ map f (take d bs) = ap (take d) eb ∙ take_at (map f (take d bs)) (drop d bs) d size in
+    let back : drop d b ≡ drop d bs = ap (drop d) eb ∙ drop_at (map f (take d bs)) (drop d bs) d size in
+    let count : d + n - d ≡ n = omega arith in
+    let fresh : new ≡ take n (drop d bs) = en ∙ ap₂ (λ (k : ℕ) (l : List (List ℕ)). take k l) count back in
+    let long : length (map f new) ≡ n = length-map new f ∙ ap length fresh ∙ length-take-le n (drop d bs) (omega (arith, length-drop d bs)) in
+    let coded : out ≡ map f (take n (drop d bs)) = eo ∙ ap (take n) (er ∙ map-append f new rest) ∙ take_at (map f new) (map f rest) n long ∙ ap (map f) fresh in
+    let after : drop (d + n - d) (drop d b) ≡ drop (d + n) bs = ap₂ (λ (k : ℕ) (l : List (List ℕ)). drop k l) count back ∙ drop-drop n d bs in
+    ap₂ (λ (x y : List (List ℕ)). x ++ (y ++ drop (d + n - d) (drop d b))) front coded
+    ∙ ap (λ (y : List (List ℕ)). map f (take d bs) ++ (map f (take n (drop d bs)) ++ y)) after
+    ∙ sym (append_assoc (map f (take d bs)) (map f (take n (drop d bs))) (drop (d + n) bs))
+    ∙ ap (λ (x : List (List ℕ)). x ++ drop (d + n) bs) (sym (map-append f (take d bs) (take n (drop d bs))) ∙ ap (map f) (sym (take-add d n bs)))

@@ -1,4 +1,4 @@
-pub mod Example
+pub mod ExampleLaws
 pub mod KeyLaws
 pub mod StepLaws
 pub mod CipherLaws

@@ -1,4 +1,5 @@
 pub mod Cipher
 pub mod KeyExpansion
+pub mod Example
 pub mod RoundKeys
 pub mod Steps

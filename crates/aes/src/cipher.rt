@@ -17,6 +17,9 @@ const ROUND_KEYS: usize = 15;
 /// The last round, the only one without MixColumns.
 const LAST_ROUND: usize = 14;
 
+/// How many blocks are encrypted at a time.
+const BATCH: usize = 8;
+
 /// AES-256 under one key. The round keys are made once. All of it is secret, so it has neither `Debug` nor equality.
 #[derive(Clone, Copy)]
 pub struct Aes256 {
@@ -26,11 +29,14 @@ pub struct Aes256 {
 }
 
 impl Aes256 {
+    ghost use Rattle.aes.specs.Example.{ExampleStands};
     ghost use Rattle.aes.specs.KeyExpansion.{aes256};
 
     /// AES-256 under a key.
+    #[tactic(auto, using(crate::proofs::ExampleLaws::example_stands))]
     pub fn new(key: &[u8; 32]) -> Aes256
-        ensures { result.key ≡ key.now }
+        ensures key { result.key ≡ key.now }
+        ensures example { ExampleStands }
     {
         let words = key_expansion(key);
         let mut round_keys = [RoundKey::new([0; 16]); ROUND_KEYS];
@@ -40,6 +46,21 @@ impl Aes256 {
         Aes256 {
             key: *key,
             round_keys,
+        }
+    }
+
+    /// Encrypts blocks where they are, however many there are.
+    pub fn encrypt(&self, blocks: &mut [[u8; 16]])
+        ensures { blocks.new ≡ map (aes256 self.now.key) blocks.old }
+    {
+        let mut done = 0;
+        while done < blocks.len() {
+            let count = (blocks.len() - done).min(BATCH);
+            let mut batch = [[0; 16]; BATCH];
+            batch[..count].copy_from_slice(&blocks[done..done + count]);
+            let batch = self.encrypt_eight(&batch);
+            blocks[done..done + count].copy_from_slice(&batch[..count]);
+            done += count;
         }
     }
 

@@ -2,8 +2,8 @@
 #![tactic(auto)]
 
 pub mod cipher;
-pub mod key_expansion;
-pub mod round_keys;
-pub mod steps;
+mod key_expansion;
+mod round_keys;
+mod steps;
 
 pub use cipher::Aes256;
