@@ -55,7 +55,7 @@ polynomial-drop-zero (suc j) (y ∷ ys) h = polynomial-drop-zero j ys (omega ari
 pub polynomial_filled : (n j : ℕ) (xs : List ℕ) → polynomial (cleared n (xs ++ drop j (replicate 16 0))) ≡ polynomial (cleared n xs)
 polynomial_filled n j xs = polynomial-append-zero n xs (drop j (replicate 16 0)) (polynomial-drop-zero j (replicate 16 0) refl)
 
-polynomial-sums : (xs ys : List ℕ) → length xs ≡ length ys → Octets xs → Octets ys → polynomial (sums xs ys) ≡ polynomial xs ⊕ polynomial ys
+pub polynomial-sums : (xs ys : List ℕ) → length xs ≡ length ys → Octets xs → Octets ys → polynomial (sums xs ys) ≡ polynomial xs ⊕ polynomial ys
 polynomial-sums [] [] e o p = refl
 polynomial-sums [] (y ∷ ys) e o p = absurd (omega arith)
 polynomial-sums (x ∷ xs) [] e o p = absurd (omega arith)

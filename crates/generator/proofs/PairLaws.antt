@@ -1,0 +1,37 @@
+-- Pairs of generators.
+use Rattle.std.proofs.Common.{◌≡◌, ℕ, zero, suc, ◌<◌, ◌≤◌, ◌*◌, Bool, true, false, min, List, [], ◌∷◌, length, replicate, Ok, sym, refl, cond, ap, ap₂, ◌∙◌, arith, bit_xor}
+use Rattle.std.specs.Int.Bits.{xor_self}
+use Rattle.std.proofs.lemmas.Nat.{xor_comm}
+use Rattle.std.proofs.lemmas.Bool.Decides.{nat_tests}
+use Rattle.units.specs.Sums.{◌⊕◌, sums}
+use Rattle.field.specs.declared.blocks.Block.{Block}
+use Rattle.field.proofs.BlockLaws.{polynomial-sums}
+use Rattle.generator.specs.Generators.{Meaning, Same, Sound, answered, block_of}
+use Rattle.generator.specs.Pairs.{PairStands, both}
+
+sums_comm : (xs ys : List ℕ) → sums xs ys ≡ sums ys xs
+sums_comm [] [] = refl
+sums_comm [] (y ∷ ys) = refl
+sums_comm (x ∷ xs) [] = refl
+sums_comm (x ∷ xs) (y ∷ ys) = ap₂ (λ (b : ℕ) (bs : List ℕ). b ∷ bs) (xor_comm x y) (sums_comm xs ys)
+
+sums_self : (xs : List ℕ) → sums xs xs ≡ replicate (length xs) 0
+sums_self [] = refl
+sums_self (x ∷ xs) = ap₂ (λ (b : ℕ) (bs : List ℕ). b ∷ bs) (xor_self x) (sums_self xs)
+
+pub pair_stands : PairStands
+pair_stands =
+    record {
+      turned = λ a b. record { reach = λ n. omega arith; block = λ n i h. sums_comm (b.block n i) (a.block n i) };
+      alike = λ a b s t n i h.
+          let below : i < a.reach n = omega arith in
+          ap (sums (a.block n i)) (t.block n i below) ∙ sums_self (a.block n i) ∙ ap (λ (k : ℕ). replicate k 0) (s.sixteen n i below);
+    }
+
+-- the block of a pair is the sum of theirs
+pub pair_answered : (a b : Meaning) (n : List ℕ) (i : ℕ) (x y z : Block) → Sound a → Sound b → answered a n i ≡ Ok x → answered b n i ≡ Ok y → z.0 ≡ x.0 ⊕ y.0 → Ok z ≡ answered (both a b) n i
+pair_answered a b n i x y z s t p q e =
+    let below : (i < a.reach n) × (i < b.reach n) = (grind (arith, nat_tests), grind (arith, nat_tests)) in
+    let long : length (a.block n i) ≡ length (b.block n i) = s.sixteen n i below.0 ∙ sym (t.sixteen n i below.1) in
+    let sum = polynomial-sums (a.block n i) (b.block n i) long (s.octets n i below.0) (t.octets n i below.1) in
+    grind (arith, nat_tests, sum)

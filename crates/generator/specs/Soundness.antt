@@ -1,0 +1,17 @@
+-- That what the generators here mean is sound, as each of them has to show.
+use Rattle.std.proofs.Common.{◌≡◌, ℕ, length, ◌∙◌, arith}
+use Rattle.units.proofs.SumLaws.{length-sums, Octets-sums}
+use Rattle.generator.specs.Generators.{Meaning, Sound}
+use Rattle.generator.specs.Pairs.{both}
+
+-- a pair of two that are
+pub both_sound : (a b : Meaning) → Sound a → Sound b → Sound (both a b)
+both_sound a b s t =
+    record {
+      near = λ n. omega (arith, s.near n);
+      sixteen = λ n i h.
+          let p : length (a.block n i) ≡ 16 = s.sixteen n i (omega arith) in
+          let q : length (b.block n i) ≡ 16 = t.sixteen n i (omega arith) in
+          length-sums (a.block n i) (b.block n i) (omega arith) ∙ p;
+      octets = λ n i h. Octets-sums (a.block n i) (b.block n i) (s.octets n i (omega arith)) (t.octets n i (omega arith));
+    }

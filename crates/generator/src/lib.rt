@@ -1,0 +1,7 @@
+#![tactic(auto)]
+
+pub mod generators;
+pub mod pairs;
+
+pub use generators::{Generator, Nonce};
+pub use pairs::Pair;
