@@ -1,12 +1,12 @@
 -- Pairs of generators.
-use Rattle.std.proofs.Common.{◌≡◌, ℕ, zero, suc, ◌<◌, ◌≤◌, ◌*◌, Bool, true, false, min, List, [], ◌∷◌, length, replicate, Ok, sym, refl, cond, ap, ap₂, ◌∙◌, arith, bit_xor}
+use Rattle.std.proofs.Common.{◌≡◌, ℕ, ◌<◌, List, [], ◌∷◌, length, replicate, Ok, sym, refl, ap, ap₂, ◌∙◌, arith}
 use Rattle.std.specs.Int.Bits.{xor_self}
 use Rattle.std.proofs.lemmas.Nat.{xor_comm}
 use Rattle.std.proofs.lemmas.Bool.Decides.{nat_tests}
 use Rattle.units.specs.Sums.{◌⊕◌, sums}
 use Rattle.field.specs.declared.blocks.Block.{Block}
 use Rattle.field.proofs.BlockLaws.{polynomial-sums}
-use Rattle.generator.specs.Generators.{Meaning, Same, Sound, answered, block_of}
+use Rattle.generator.specs.Generators.{Meaning, Sound, answered}
 use Rattle.generator.specs.Pairs.{PairStands, both}
 
 sums_comm : (xs ys : List ℕ) → sums xs ys ≡ sums ys xs
@@ -29,7 +29,7 @@ pair_stands =
     }
 
 -- the block of a pair is the sum of theirs
-pub pair_answered : (a b : Meaning) (n : List ℕ) (i : ℕ) (x y z : Block) → Sound a → Sound b → answered a n i ≡ Ok x → answered b n i ≡ Ok y → z.0 ≡ x.0 ⊕ y.0 → Ok z ≡ answered (both a b) n i
+pub pair_answered : (a b : Meaning) (n : List ℕ) (i : ℕ) (x y z : Block) → Sound a → Sound b → Ok x ≡ answered a n i → Ok y ≡ answered b n i → z.0 ≡ x.0 ⊕ y.0 → Ok z ≡ answered (both a b) n i
 pair_answered a b n i x y z s t p q e =
     let below : (i < a.reach n) × (i < b.reach n) = (grind (arith, nat_tests), grind (arith, nat_tests)) in
     let long : length (a.block n i) ≡ length (b.block n i) = s.sixteen n i below.0 ∙ sym (t.sixteen n i below.1) in

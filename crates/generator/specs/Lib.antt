@@ -1,3 +1,5 @@
 pub mod Generators
+pub mod Keys
+pub mod Keystreams
 pub mod Pairs
 pub mod Soundness

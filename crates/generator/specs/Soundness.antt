@@ -1,5 +1,5 @@
 -- That what the generators here mean is sound, as each of them has to show.
-use Rattle.std.proofs.Common.{◌≡◌, ℕ, length, ◌∙◌, arith}
+use Rattle.std.proofs.Common.{◌≡◌, length, ◌∙◌, arith}
 use Rattle.units.proofs.SumLaws.{length-sums, Octets-sums}
 use Rattle.generator.specs.Generators.{Meaning, Sound}
 use Rattle.generator.specs.Pairs.{both}
