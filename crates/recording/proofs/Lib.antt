@@ -1,3 +1,4 @@
 pub mod CheckingLaws
+pub mod PlayingLaws
 pub mod ReadingLaws
 pub mod RecordLaws

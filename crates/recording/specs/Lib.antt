@@ -1,3 +1,4 @@
 pub mod Checking
+pub mod Playing
 pub mod Reading
 pub mod Records

@@ -1,0 +1,24 @@
+-- Playing a recording back.
+use Rattle.std.specs.Prelude.{ℕ, cond, List, [], ◌∷◌, length, nat_lt, slice_index_or}
+use Rattle.units.specs.Strings.{same}
+use Rattle.generator.specs.Generators.{Meaning}
+use Rattle.recording.specs.Reading.{records}
+use Rattle.recording.specs.Records.{Entry, keystream, remark}
+
+-- the records of a recording before the first fault; none where it has more than 65,536 bytes
+abbrev pub readable : List ℕ → List Entry
+readable xs = cond (nat_lt 65536 (length xs)) [] (records xs)
+
+-- the blocks of the first keystream record with the nonce; none where there is no such record
+abbrev pub blocks_under : List ℕ → List Entry → List (List ℕ)
+blocks_under n [] = []
+blocks_under n (keystream nonce blocks ∷ es) = cond (same nonce n) blocks (blocks_under n es)
+blocks_under n (remark text ∷ es) = blocks_under n es
+
+-- what a recording means as a generator: under each nonce those blocks
+abbrev pub played : List ℕ → Meaning
+played xs =
+    record {
+      reach = λ n. length (blocks_under n (readable xs));
+      block = λ n i. slice_index_or (blocks_under n (readable xs)) i [];
+    }

@@ -1,0 +1,61 @@
+//! Playing a recording back: a generator that gives the keystream that was recorded.
+ghost use Rattle.std.specs.Prelude.{◌≡◌};
+ghost use Rattle.generator.specs.Generators.{Sound};
+ghost use Rattle.recording.specs.Playing.{blocks_under, played, readable};
+
+use super::reading::Reader;
+use super::records::Record;
+use field::Block;
+use generator::generators::{Generator, Nonce, short};
+use units::Refusal;
+
+/// A recording played back. Under a nonce it has the blocks of the first keystream record with that nonce, among the
+/// records before the first fault; it has none where there is no such record, or the recording is too long.
+#[derive(Clone, Copy, Debug)]
+pub struct Playback<'a> {
+    bytes: &'a [u8],
+    ghost sound: { Sound (played bytes.now) },
+}
+
+impl<'a> Playback<'a> {
+    /// The playback of recorded bytes.
+    pub fn new(bytes: &'a [u8]) -> Playback<'a>
+        ensures { result.bytes ≡ bytes.entry }
+    {
+        Playback { bytes }
+    }
+
+    /// The recorded blocks under a nonce.
+    #[tactic(auto, using(crate::proofs::PlayingLaws::entries_start, crate::proofs::PlayingLaws::under_found, crate::proofs::PlayingLaws::under_other, crate::proofs::PlayingLaws::under_remark, crate::proofs::PlayingLaws::under_end))]
+    fn blocks(&self, nonce: &Nonce) -> &'a [[u8; 16]]
+        ensures { result.now ≡ blocks_under nonce.now.0 (readable self.now.bytes.now) }
+    {
+        for (_, record) in Reader::new(self.bytes).record_indices() {
+            if let Record::Keystream { nonce: of, blocks } = record
+                && *of == nonce.0
+            {
+                return blocks;
+            }
+        }
+        &[]
+    }
+}
+
+/// The recorded blocks, as many as there are under a nonce.
+impl Generator for Playback<'_> {
+    ghost meaning = { λ playback. played playback.bytes.now };
+
+    fn reach(&mut self, nonce: &Nonce) -> u64 {
+        self.blocks(nonce).len() as u64
+    }
+
+    fn block(&mut self, nonce: &Nonce, index: u64) -> Result<Block, Refusal> {
+        let blocks = self.blocks(nonce);
+        let bytes = blocks
+            .get(index as usize)
+            .ok_or(short(blocks.len() as u64))?;
+        Ok(Block::from_bytes(bytes))
+    }
+
+    ghost sound = { λ playback. playback.sound };
+}
