@@ -3,7 +3,7 @@ use Rattle.std.proofs.Common.{◌≡◌, ℕ, zero, suc, ◌+◌, ◌<◌, ◌�
 use lib.Pointwise.{pointwise}
 use Rattle.std.specs.List.{flat_map, AllByRecursion}
 use Rattle.units.specs.Strings.{Octets, same, two}
-use Rattle.units.proofs.StringLaws.{Octets-append_rest}
+use Rattle.units.proofs.StringLaws.{Octets-append_rest, same_tells}
 use Rattle.generator.specs.Generators.{Sound}
 use Rattle.recording.specs.Playing.{blocks_under, played, readable}
 use Rattle.recording.specs.Reading.{ahead, placed, records, up_to}
@@ -105,6 +105,9 @@ same_pointwise [] (y ∷ ys) = refl
 same_pointwise (x ∷ xs) [] = refl
 same_pointwise (x ∷ xs) (y ∷ ys) = ap (λ (b : Bool). nat_eq x y && b) (same_pointwise xs ys)
 
+pub same_nonce : (xs ys : List ℕ) → pointwise nat_eq xs ys ≡ true → xs ≡ ys
+same_nonce xs ys h = (same_tells xs ys).0 (sym (same_pointwise xs ys) ∙ h)
+
 -- the next record is a keystream record with the nonce, or one to go past
 pub under_found : (n : List ℕ) (at : ℕ) (nonce : List ℕ) (blocks : List (List ℕ)) (all rest : List (ℕ × Entry)) → all ≡ (at, keystream nonce blocks) ∷ rest → pointwise nat_eq nonce n ≡ true → blocks_under n (entries all) ≡ blocks
 under_found n at nonce blocks all rest e h = ap (λ (l : List (ℕ × Entry)). blocks_under n (entries l)) e ∙ ap (λ (b : Bool). cond b blocks (blocks_under n (entries rest))) (sym (same_pointwise nonce n) ∙ h)
@@ -117,3 +120,6 @@ under_remark n at text all rest e = ap (λ (l : List (ℕ × Entry)). blocks_und
 
 pub under_end : (n : List ℕ) (all : List (ℕ × Entry)) → all ≡ [] → blocks_under n (entries all) ≡ []
 under_end n all e = ap (λ (l : List (ℕ × Entry)). blocks_under n (entries l)) e
+
+-- what the search of a recording rests on
+pub ruleset searching = (entries_start, under_found, under_other, under_remark, under_end)

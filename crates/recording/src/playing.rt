@@ -1,5 +1,6 @@
 //! Playing a recording back: a generator that gives the keystream that was recorded.
 ghost use Rattle.std.specs.Prelude.{◌≡◌};
+ghost use Rattle.std.specs.Option.{ForSome};
 ghost use Rattle.generator.specs.Generators.{Sound};
 ghost use Rattle.recording.specs.Playing.{blocks_under, played, readable};
 
@@ -11,10 +12,13 @@ use units::Refusal;
 
 /// A recording played back. Under a nonce it has the blocks of the first keystream record with that nonce, among the
 /// records before the first fault; it has none where there is no such record, or the recording is too long.
-#[derive(Clone, Copy, Debug)]
+#[derive(Clone, Copy)]
 pub struct Playback<'a> {
     bytes: &'a [u8],
+    // The nonce that was asked for last and its blocks: the blocks of one keystream are asked for one after another.
+    last: Option<(Nonce, &'a [[u8; 16]])>,
     ghost sound: { Sound (played bytes.now) },
+    ghost found: { ForSome last (λ found. found.1.now ≡ blocks_under found.0.0 (readable bytes.now)) },
 }
 
 impl<'a> Playback<'a> {
@@ -22,22 +26,22 @@ impl<'a> Playback<'a> {
     pub fn new(bytes: &'a [u8]) -> Playback<'a>
         ensures { result.bytes ≡ bytes.entry }
     {
-        Playback { bytes }
+        Playback { bytes, last: None }
     }
 
     /// The recorded blocks under a nonce.
-    #[tactic(auto, using(crate::proofs::PlayingLaws::entries_start, crate::proofs::PlayingLaws::under_found, crate::proofs::PlayingLaws::under_other, crate::proofs::PlayingLaws::under_remark, crate::proofs::PlayingLaws::under_end))]
-    fn blocks(&self, nonce: &Nonce) -> &'a [[u8; 16]]
-        ensures { result.now ≡ blocks_under nonce.now.0 (readable self.now.bytes.now) }
+    fn blocks(&mut self, nonce: &Nonce) -> &'a [[u8; 16]]
+        ensures value { result.now ≡ blocks_under nonce.now.0 (readable self.old.bytes.now) }
+        ensures same { self.new.bytes ≡ self.old.bytes }
     {
-        for (_, record) in Reader::new(self.bytes).record_indices() {
-            if let Record::Keystream { nonce: of, blocks } = record
-                && *of == nonce.0
-            {
-                return blocks;
-            }
+        if let Some((last, blocks)) = self.last
+            && last == *nonce
+        {
+            return blocks;
         }
-        &[]
+        let blocks = recorded(self.bytes, nonce);
+        self.last = Some((*nonce, blocks));
+        blocks
     }
 }
 
@@ -58,4 +62,19 @@ impl Generator for Playback<'_> {
     }
 
     ghost sound = { λ playback. playback.sound };
+}
+
+/// The blocks under a nonce in recorded bytes.
+#[tactic(auto, using(crate::proofs::PlayingLaws::searching))]
+fn recorded<'a>(bytes: &'a [u8], nonce: &Nonce) -> &'a [[u8; 16]]
+    ensures { result.now ≡ blocks_under nonce.now.0 (readable bytes.now) }
+{
+    for (_, record) in Reader::new(bytes).record_indices() {
+        if let Record::Keystream { nonce: of, blocks } = record
+            && *of == nonce.0
+        {
+            return blocks;
+        }
+    }
+    &[]
 }

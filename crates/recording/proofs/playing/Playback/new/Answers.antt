@@ -2,5 +2,5 @@ use Rattle.std.proofs.Common.{arith}
 use Rattle.recording.proofs.PlayingLaws.{sound}
 use Rattle.recording.proofs.playing.Playback.new.Goals as goal
 
-pub invariant_of-result : goal.invariant_of-result
-invariant_of-result c = record { sound = sound c.args.bytes.now (λ k. omega (arith, c.type_inv.bytes k)) }
+pub invariant_of-result-clause-sound : goal.invariant_of-result-clause-sound
+invariant_of-result-clause-sound c = sound c.args.bytes.now (λ k. omega (arith, c.type_inv.bytes k))
