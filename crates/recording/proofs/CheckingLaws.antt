@@ -71,7 +71,7 @@ front (suc n) xs o = go (front n) (first xs) refl
         }
     go again None e = record { formed = tt; rest = xs; parts = refl }
 
-run_records : (xs : List ℕ) (es : List Entry) → AllByRecursion WellFormed es → xs ≡ flat_map written es → records xs ≡ es
+pub run_records : (xs : List ℕ) (es : List Entry) → AllByRecursion WellFormed es → xs ≡ flat_map written es → records xs ≡ es
 run_records xs [] w e = ap records e ∙ records_none [] refl
 run_records xs (a ∷ es) w e =
     records_some xs a (flat_map written es) record { formed = w.0; parts = e }

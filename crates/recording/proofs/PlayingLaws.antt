@@ -1,13 +1,16 @@
 -- What is played back of a recording.
-use Rattle.std.proofs.Common.{◌≡◌, ℕ, zero, suc, ◌+◌, ◌<◌, ◌≤◌, Bool, true, false, ◌&&◌, cond, ltb, nat_eq, subst, List, [], ◌∷◌, ◌++◌, map, length, get_or, Some, None, sym, refl, ap, ◌∙◌, arith}
+use Rattle.std.proofs.Common.{◌≡◌, ℕ, zero, suc, ◌+◌, ◌<◌, ◌≤◌, Bool, true, false, ◌&&◌, cond, ltb, nat_eq, subst, List, [], ◌∷◌, ◌++◌, map, length, get_or, Some, None, sym, refl, ap, ◌∙◌, append-nil, arith}
 use lib.Pointwise.{pointwise}
-use Rattle.std.specs.List.{flat_map, AllByRecursion}
+use Rattle.std.specs.List.{flat_map, AllByRecursion, Contains}
+use Rattle.std.proofs.lemmas.List.Elements.{Contains-append_right}
+use Rattle.std.proofs.lemmas.Bool.Decides.{nat_tests}
 use Rattle.units.specs.Strings.{Octets, same, two}
 use Rattle.units.proofs.StringLaws.{Octets-append_rest, same_tells}
 use Rattle.generator.specs.Generators.{Sound}
-use Rattle.recording.specs.Playing.{blocks_under, played, readable}
+use Rattle.recording.specs.Playing.{PlaybackStands, blocks_under, played, readable}
 use Rattle.recording.specs.Reading.{ahead, placed, records, up_to}
 use Rattle.recording.specs.Records.{Entry, Begins, first, keystream, keystream_mark, remark, written}
+use Rattle.recording.proofs.CheckingLaws.{run_records}
 use Rattle.recording.proofs.ReadingLaws.{Found}
 use Rattle.recording.proofs.RecordLaws.{first_there}
 
@@ -123,3 +126,26 @@ under_end n all e = ap (λ (l : List (ℕ × Entry)). blocks_under n (entries l)
 
 -- what the search of a recording rests on
 pub ruleset searching = (entries_start, under_found, under_other, under_remark, under_end)
+
+-- ---- what is played
+
+-- records without the nonce are gone past
+past : (n : List ℕ) (es later : List Entry) → ((bs : List (List ℕ)) → ¬ Contains es (keystream n bs)) → blocks_under n (es ++ later) ≡ blocks_under n later
+past n [] later h = refl
+past n (remark text ∷ es) later h = past n es later (λ bs found. h bs (Contains-append_right (remark text ∷ []) es (keystream n bs) found))
+past n (keystream nonce blocks ∷ es) later h =
+    go (same nonce n) refl (past n es later (λ bs found. h bs (Contains-append_right (keystream nonce blocks ∷ []) es (keystream n bs) found)))
+  where
+    go : (b : Bool) → same nonce n ≡ b → blocks_under n (es ++ later) ≡ blocks_under n later → cond b blocks (blocks_under n (es ++ later)) ≡ blocks_under n later
+    go true e rest = absurd (h blocks (0, omega arith, ap (λ (m : List ℕ). keystream m blocks) ((same_tells nonce n).0 e)))
+    go false e rest = rest
+
+pub playback_stands : PlaybackStands
+playback_stands =
+    record {
+      whole = λ es formed h. let all = run_records (flat_map written es) es formed refl in grind (arith, nat_tests, all);
+      first = λ n blocks es later h.
+          past n es (keystream n blocks ∷ later) h
+          ∙ ap (λ (b : Bool). cond b blocks (blocks_under n later)) ((same_tells n n).1 refl);
+      none = λ n es h. ap (blocks_under n) (sym (append-nil es)) ∙ past n es [] h;
+    }

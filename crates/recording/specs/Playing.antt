@@ -1,9 +1,10 @@
 -- Playing a recording back.
-use Rattle.std.specs.Prelude.{ℕ, cond, List, [], ◌∷◌, length, nat_lt, slice_index_or}
+use Rattle.std.specs.Prelude.{◌≡◌, ℕ, ◌≤◌, cond, List, [], ◌∷◌, ◌++◌, length, nat_lt, slice_index_or}
+use Rattle.std.specs.List.{flat_map, AllByRecursion, Contains}
 use Rattle.units.specs.Strings.{same}
 use Rattle.generator.specs.Generators.{Meaning}
 use Rattle.recording.specs.Reading.{records}
-use Rattle.recording.specs.Records.{Entry, keystream, remark}
+use Rattle.recording.specs.Records.{Entry, WellFormed, keystream, remark, written}
 
 -- the records of a recording before the first fault; none where it has more than 65,536 bytes
 abbrev pub readable : List ℕ → List Entry
@@ -22,3 +23,12 @@ played xs =
       reach = λ n. length (blocks_under n (readable xs));
       block = λ n i. slice_index_or (blocks_under n (readable xs)) i [];
     }
+
+-- what holds of every playback
+pub record PlaybackStands : Type 0 where
+  -- of records that are written one after another, each is played
+  pub whole : (es : List Entry) → AllByRecursion WellFormed es → length (flat_map written es) ≤ 65536 → readable (flat_map written es) ≡ es
+  -- the first keystream record with a nonce decides, whatever comes later
+  pub first : (n : List ℕ) (blocks : List (List ℕ)) (es later : List Entry) → ((bs : List (List ℕ)) → ¬ Contains es (keystream n bs)) → blocks_under n (es ++ (keystream n blocks ∷ later)) ≡ blocks
+  -- where there is none, there are no blocks
+  pub none : (n : List ℕ) (es : List Entry) → ((bs : List (List ℕ)) → ¬ Contains es (keystream n bs)) → blocks_under n es ≡ []

@@ -2,7 +2,7 @@
 ghost use Rattle.std.specs.Prelude.{◌≡◌};
 ghost use Rattle.std.specs.Option.{ForSome};
 ghost use Rattle.generator.specs.Generators.{Sound};
-ghost use Rattle.recording.specs.Playing.{blocks_under, played, readable};
+ghost use Rattle.recording.specs.Playing.{PlaybackStands, blocks_under, played, readable};
 
 use super::reading::Reader;
 use super::records::Record;
@@ -23,8 +23,10 @@ pub struct Playback<'a> {
 
 impl<'a> Playback<'a> {
     /// The playback of recorded bytes.
+    #[tactic(auto, using(crate::proofs::PlayingLaws::playback_stands))]
     pub fn new(bytes: &'a [u8]) -> Playback<'a>
-        ensures { result.bytes ≡ bytes.entry }
+        ensures bytes { result.bytes ≡ bytes.entry }
+        ensures stands { PlaybackStands }
     {
         Playback { bytes, last: None }
     }
@@ -34,10 +36,10 @@ impl<'a> Playback<'a> {
         ensures value { result.now ≡ blocks_under nonce.now.0 (readable self.old.bytes.now) }
         ensures same { self.new.bytes ≡ self.old.bytes }
     {
-        if let Some((last, blocks)) = self.last
+        if let Some((last, found)) = self.last
             && last == *nonce
         {
-            return blocks;
+            return found;
         }
         let blocks = recorded(self.bytes, nonce);
         self.last = Some((*nonce, blocks));
