@@ -20,6 +20,7 @@ digit c =
     cond (nat_le 48 c && nat_le c 57) (Some (c - 48))
     (cond (nat_le 97 c && nat_le c 102) (Some (c - 97 + 10)) None)
 
+-- whether a character is a digit
 abbrev pub is_digit : ℕ → Bool
 is_digit c = is_some (digit c)
 

@@ -5,7 +5,7 @@ ghost use Rattle.generator.specs.Generators.{Meaning, Same, Sound, answered, sho
 use field::Block;
 use units::{Layer, Reason, Refusal};
 
-/// What a keystream is made for: a generator gives the same blocks under the same nonce.
+/// What a keystream is asked for by: under the same nonce a generator gives the same blocks.
 #[derive(Clone, Copy, Debug, PartialEq, Eq)]
 pub struct Nonce(pub [u8; 12]);
 
@@ -24,6 +24,7 @@ pub trait Generator {
         ensures value { result ≡ answered (meaning self.old) nonce.now.0 index }
         ensures same { Same (meaning self.old) (meaning self.new) };
 
+    /// The reach is at most 2^32, and each block below it is sixteen bytes.
     ghost sound: { (generator : Self) → Sound (meaning generator) };
 }
 

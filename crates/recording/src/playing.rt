@@ -7,7 +7,8 @@ ghost use Rattle.recording.specs.Playing.{PlaybackStands, blocks_under, played, 
 use super::reading::Reader;
 use super::records::Record;
 use field::Block;
-use generator::generators::{Generator, Nonce, short};
+use generator::generators::short;
+use generator::{Generator, Nonce};
 use units::Refusal;
 
 /// A recording played back. Under a nonce it has the blocks of the first keystream record with that nonce, among the
