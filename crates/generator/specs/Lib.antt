@@ -1,4 +1,5 @@
 pub mod Generators
+pub mod AesGenerator
 pub mod Keys
 pub mod Keystreams
 pub mod Pairs

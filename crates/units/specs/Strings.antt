@@ -21,6 +21,10 @@ same (x ∷ xs) (y ∷ ys) = x == y && same xs ys
 unfoldable pub two : ℕ → List ℕ
 two n = n / 256 % 256 ∷ n % 256 ∷ []
 
+-- four bytes of a number, the most significant first
+unfoldable pub four : ℕ → List ℕ
+four n = n / 16777216 % 256 ∷ n / 65536 % 256 ∷ n / 256 % 256 ∷ n % 256 ∷ []
+
 -- the number in the two bytes from the place i on
 unfoldable pub two_at : List ℕ → ℕ → ℕ
 two_at xs i = slice_index xs i * 256 + slice_index xs (i + 1)

@@ -1,0 +1,18 @@
+use Rattle.std.proofs.Common.{rules, length-set, ◌∙◌, refl}
+use Rattle.generator.proofs.AesGeneratorLaws.{all_right, counter_more, no_counters}
+use Rattle.generator.proofs.aes_generator.Batch.new.Goals as goal
+
+pub loop-i-init : goal.loop-i-init
+loop-i-init c = (refl, no_counters c.args.nonce.now.0 c.args.first)
+
+pub loop-i-preserved : goal.loop-i-preserved
+loop-i-preserved c =
+    let l = c.loop-i in (
+      length-set l.counters l.i _ ∙ l.invariant.0,
+      counter_more c.args.nonce.now.0 c.args.first l.i l.counters c.counter_block.result l.invariant.0 (search rules) l.invariant.1 (search rules),
+    )
+
+pub returns-clause-right : goal.returns-clause-right
+returns-clause-right c =
+    let l = c.loop-i in
+    all_right c.args.aes.now.key c.args.nonce.now.0 c.args.first l.i l.counters c.encrypt_eight.result l.invariant.0 (search rules) l.invariant.1 c.encrypt_eight.ensures
