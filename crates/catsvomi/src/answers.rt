@@ -11,14 +11,23 @@ pub enum Answer {
     Recording(Listing),
     Block(Block),
     Bytes(Vec<u8>),
+    Blocks(Vec<Block>),
+    Ok,
+    Refused(Refusal),
 }
 
 impl Answer {
+    /// The answer to a command that may be refused.
+    pub fn of(answer: Result<Answer, Refusal>) -> Answer {
+        answer.unwrap_or_else(Answer::Refused)
+    }
+
     /// The refusal, if the command was refused.
     pub fn refusal(&self) -> Option<Refusal> {
         match self {
-            Answer::Help | Answer::Block(_) | Answer::Bytes(_) => None,
             Answer::Recording(listing) => listing.verdict.err(),
+            Answer::Refused(refusal) => Some(*refusal),
+            _ => None,
         }
     }
 }
@@ -30,6 +39,9 @@ impl fmt::Display for Answer {
             Answer::Recording(listing) => write!(f, "{listing}"),
             Answer::Block(block) => write_bytes(f, &block.to_bytes()),
             Answer::Bytes(bytes) => write_bytes(f, bytes.as_slice()),
+            Answer::Blocks(blocks) => write_blocks(f, blocks.as_slice()),
+            Answer::Ok => f.write_str("ok"),
+            Answer::Refused(refusal) => write!(f, "{refusal}"),
         }
     }
 }
@@ -37,6 +49,17 @@ impl fmt::Display for Answer {
 fn write_bytes<W: fmt::Write>(f: &mut fmt::Formatter<W>, bytes: &[u8]) -> fmt::Result {
     let shown = Hex(bytes);
     write!(f, "{shown}")
+}
+
+/// Blocks one after another, or `-` for none.
+fn write_blocks<W: fmt::Write>(f: &mut fmt::Formatter<W>, blocks: &[Block]) -> fmt::Result {
+    if blocks.is_empty() {
+        return f.write_str("-");
+    }
+    for block in blocks {
+        write_bytes(f, &block.to_bytes())?;
+    }
+    Ok(())
 }
 
 const HELP: &str = "catsvomi reads commands, one a line: a word, and then fields as key=value.
@@ -57,4 +80,13 @@ error: line N: and why, and the run goes on. An account comes at the end.
       The bytes of data folded with h, from zero, a block.
   tag h=BLOCK q=BLOCK p=BLOCK t=SIZE aad_bits=BITS aad=HEX bits=BITS data=HEX
       The tag of SIZE bytes, 4 to 16, of an AAD and a ciphertext, data. Each has
-      exactly the bytes that its bits fill.";
+      exactly the bytes that its bits fill.
+  aes256 key=TEXT block=BLOCK
+      The encryption of a block under a key, a block. A key's TEXT is 64 digits
+      0 to 9 or a to f.
+  key text=TEXT
+      Says whether a text is that of a key.
+  blocks key=TEXT nonce=HEX first=INDEX count=COUNT
+      COUNT blocks of keystream, at most 65536, under a nonce of 12 bytes, from an
+      index on. With recording=HEX in the place of key=, those of a recording;
+      with_key=TEXT or with_recording=HEX besides makes a pair of the two.";

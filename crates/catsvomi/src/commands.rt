@@ -1,9 +1,9 @@
 //! The commands: which word names which, and what each answers.
 use super::answers::Answer;
 use super::errors::Unreadable;
-use super::field_commands;
 use super::fields::Fields;
 use super::listings::Listing;
+use super::{field_commands, generator_commands};
 use std::alloc::Global;
 use std::fmt;
 
@@ -14,6 +14,9 @@ pub enum Command {
     Dot,
     Polyval,
     Tag,
+    Aes256,
+    Key,
+    Blocks,
 }
 
 impl<'a> TryFrom<&'a str> for Command {
@@ -26,6 +29,9 @@ impl<'a> TryFrom<&'a str> for Command {
             "dot" => Ok(Command::Dot),
             "polyval" => Ok(Command::Polyval),
             "tag" => Ok(Command::Tag),
+            "aes256" => Ok(Command::Aes256),
+            "key" => Ok(Command::Key),
+            "blocks" => Ok(Command::Blocks),
             _ => Err(Unreadable::UnknownCommand(word)),
         }
     }
@@ -40,6 +46,9 @@ impl fmt::Display for Command {
             Command::Dot => "dot",
             Command::Polyval => "polyval",
             Command::Tag => "tag",
+            Command::Aes256 => "aes256",
+            Command::Key => "key",
+            Command::Blocks => "blocks",
         })
     }
 }
@@ -66,6 +75,13 @@ impl Command {
             Command::Dot => Ok(Answer::Block(field_commands::dot(fields)?)),
             Command::Polyval => Ok(Answer::Block(field_commands::polyval(fields)?)),
             Command::Tag => Ok(Answer::Bytes(field_commands::tag(fields)?)),
+            Command::Aes256 => Ok(Answer::of(generator_commands::aes256(fields)?.map(
+                Answer::Block,
+            ))),
+            Command::Key => Ok(Answer::of(generator_commands::key(fields)?.map(|_| Answer::Ok))),
+            Command::Blocks => Ok(Answer::of(generator_commands::blocks(fields)?.map(
+                Answer::Blocks,
+            ))),
         }
     }
 }

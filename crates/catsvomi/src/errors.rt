@@ -21,11 +21,13 @@ pub enum Unreadable<'a> {
     NoHex(&'static str),
     #[error("'{0}=' is not a block of 16 bytes")]
     NoBlock(&'static str),
+    #[error("'{0}=' is not a nonce of 12 bytes")]
+    NoNonce(&'static str),
     #[error("'{key}=' is not a decimal number from {least} to {most}")]
     NoNumber {
         key: &'static str,
-        least: u32,
-        most: u32,
+        least: u64,
+        most: u64,
     },
     #[error("'{key}=' has not exactly the bytes that the bits of '{bits_key}=' fill")]
     NotFilled {

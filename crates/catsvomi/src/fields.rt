@@ -1,12 +1,15 @@
 //! A command line taken apart: a word and then fields as `key=value`.
 use super::errors::Unreadable;
+use super::sources::Source;
 use field::Block;
+use generator::{Key, Nonce};
 use hexadecimal::Fault;
 use indexmap::IndexMap;
 use std::alloc::{AllocError, Global};
+use std::num::ParseIntError;
 use std::ops::RangeInclusive;
-use std::str::SplitWhitespace;
-use units::{BitString, Bits};
+use std::str::{FromStr, SplitWhitespace};
+use units::{BitString, Bits, Refusal};
 
 /// The fields of a command that have not been taken yet, by their keys and in the order of the line.
 #[derive(Drop)]
@@ -33,6 +36,11 @@ impl<'a> Fields<'a> {
         self.left.shift_remove(key).ok_or(Unreadable::Missing(key))
     }
 
+    /// Whether a field is there and has not been taken.
+    fn has(&self, key: &'static str) -> bool {
+        self.left.contains_key(key)
+    }
+
     /// Takes a field of bytes: hexadecimal, or `-` for none.
     pub fn bytes(&mut self, key: &'static str) -> Result<Vec<u8>, Unreadable<'a>> {
         let value = self.take(key)?;
@@ -53,6 +61,43 @@ impl<'a> Fields<'a> {
         }
     }
 
+    /// Takes a field of twelve bytes.
+    pub fn nonce(&mut self, key: &'static str) -> Result<Nonce, Unreadable<'a>> {
+        match self.bytes(key)?.as_slice().as_chunks::<12>() {
+            ([nonce], []) => Ok(Nonce(*nonce)),
+            _ => Err(Unreadable::NoNonce(key)),
+        }
+    }
+
+    /// Takes a key text, and answers its key or why it is none.
+    pub fn key(&mut self, key: &'static str) -> Result<Result<Key, Refusal>, Unreadable<'a>> {
+        Ok(Key::from_text(self.take(key)?))
+    }
+
+    /// Takes what a generator is made of: a key text or a recording, whichever is there.
+    pub fn source(
+        &mut self,
+        key: &'static str,
+        recording: &'static str,
+    ) -> Result<Result<Source, Refusal>, Unreadable<'a>> {
+        if self.has(recording) {
+            return Ok(Ok(Source::Recording(self.bytes(recording)?)));
+        }
+        Ok(self.key(key)?.map(Source::Key))
+    }
+
+    /// The same, if either is there.
+    pub fn optional_source(
+        &mut self,
+        key: &'static str,
+        recording: &'static str,
+    ) -> Result<Result<Option<Source>, Refusal>, Unreadable<'a>> {
+        if self.has(key) || self.has(recording) {
+            return Ok(self.source(key, recording)?.map(Some));
+        }
+        Ok(Ok(None))
+    }
+
     /// Takes a field that is a decimal number within a range.
     pub fn number(
         &mut self,
@@ -60,15 +105,23 @@ impl<'a> Fields<'a> {
         range: RangeInclusive<u32>,
     ) -> Result<u32, Unreadable<'a>> {
         let text = self.take(key)?;
-        match text.parse::<u32>() {
-            // `parse` takes a plus sign as well
-            Ok(number) if range.contains(&number) && !text.starts_with('+') => Ok(number),
+        match decimal(text) {
+            Some(number) if range.contains(&number) => Ok(number),
             _ => Err(Unreadable::NoNumber {
                 key,
-                least: *range.start(),
-                most: *range.end(),
+                least: u64::from(*range.start()),
+                most: u64::from(*range.end()),
             }),
         }
+    }
+
+    /// Takes a field that is a decimal number of up to 64 bits.
+    pub fn index(&mut self, key: &'static str) -> Result<u64, Unreadable<'a>> {
+        decimal(self.take(key)?).ok_or(Unreadable::NoNumber {
+            key,
+            least: 0,
+            most: u64::MAX,
+        })
     }
 
     /// Takes a number of bits and exactly the bytes that they fill.
@@ -104,6 +157,11 @@ impl<'a> Fields<'a> {
         Ok(Vec::from_elem(self.heap, 0, count)?)
     }
 
+    /// Room for so many blocks.
+    pub fn blocks(&self, count: usize) -> Result<Vec<Block>, Unreadable<'a>> {
+        Ok(Vec::from_elem(self.heap, Block::ZERO, count)?)
+    }
+
     /// Ends the reading: no field may be left.
     pub fn end(self) -> Result<(), Unreadable<'a>> {
         match self.left.keys().next() {
@@ -111,6 +169,14 @@ impl<'a> Fields<'a> {
             None => Ok(()),
         }
     }
+}
+
+/// A decimal number; `parse` would take a plus sign as well.
+fn decimal<T: FromStr<Err = ParseIntError>>(text: &str) -> Option<T> {
+    if text.starts_with('+') {
+        return None;
+    }
+    text.parse::<T>().ok()
 }
 
 /// A bit string as a line gives it, with bytes of its own.

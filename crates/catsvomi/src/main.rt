@@ -8,7 +8,9 @@ mod commands;
 mod errors;
 mod field_commands;
 mod fields;
+mod generator_commands;
 mod listings;
+mod sources;
 
 use accounts::Account;
 use commands::Command;
