@@ -5,8 +5,14 @@ ghost use Rattle.std.specs.Prelude.{◌≡◌, ◌++◌, length, drop};
 ghost use Rattle.field.specs.Blocks.{block_bytes, polynomial};
 ghost use Rattle.field.specs.Folds.{fold};
 ghost use Rattle.field.specs.Tags.{tag};
+ghost use Rattle.polynomials.specs.Words.{sum_of};
+ghost use Rattle.aes.specs.KeyExpansion.{aes256};
+ghost use Rattle.generator.specs.AesGenerator.{counter_block};
+ghost use Rattle.bench.specs.Turns.{again};
 
+use aes::Aes256;
 use field::{Block, TagKeys, fold};
+use generator::{AesGenerator, Generator, Key, Nonce};
 use units::{BitString, Bits};
 
 /// Folds so many bits of data with the block `h`, from the block `value` and into it.
@@ -39,6 +45,35 @@ pub extern "C" fn bench_tag(
         p: Block::from_bytes(p),
     };
     keys.tag(bit_string(aad_bits, aad), bit_string(bits, ciphertext), out);
+}
+
+/// Encrypts a block as many times as there are turns, in the place of each of eight.
+#[unsafe(no_mangle)]
+pub extern "C" fn bench_aes256(key: &[u8; 32], block: &mut [u8; 16], turns: u32)
+    ensures { block.new ≡ again turns key.now block.old }
+{
+    let aes = Aes256::new(key);
+    let mut blocks = [*block; 8];
+    for _ in 0..turns {
+        blocks = aes.encrypt_eight(&blocks);
+    }
+    *block = blocks[0];
+}
+
+/// Writes the sum of the first blocks of keystream under a key and a nonce, so many as `count` says.
+#[unsafe(no_mangle)]
+pub extern "C" fn bench_keystream(key: &[u8; 32], nonce: &[u8; 12], count: u32, out: &mut [u8; 16])
+    ensures { out.new ≡ block_bytes (sum_of count (λ i. polynomial (aes256 key.now (counter_block nonce.now i)))) }
+{
+    let mut generator = AesGenerator::new(&Key(*key));
+    let nonce = Nonce(*nonce);
+    let mut sum = Block::ZERO;
+    for index in 0..count {
+        if let Ok(block) = generator.block(&nonce, u64::from(index)) {
+            sum = sum + block;
+        }
+    }
+    *out = sum.to_bytes();
 }
 
 fn bit_string(bits: u32, bytes: &[u8]) -> BitString<'_>
