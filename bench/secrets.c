@@ -1,6 +1,6 @@
 /* Calls the measured code with its secrets marked as undefined, for valgrind's memcheck, which reports every branch and every
- * address that depends on an undefined value. A fold whose H and data are undefined must give no report, and neither must a
- * tag whose H, Q, P, AAD and ciphertext are. */
+ * address that depends on an undefined value. A fold whose H and data are undefined must give no report, nor a tag whose H, Q, P,
+ * AAD and ciphertext are, an encryption whose key and block are, or keystream whose key is. */
 #include <stddef.h>
 #include <stdint.h>
 #include <stdio.h>
@@ -10,21 +10,28 @@
 void bench_fold(const uint8_t h[16], uint8_t value[16], uint32_t bits, const uint8_t *bytes, size_t length);
 void bench_tag(const uint8_t h[16], const uint8_t q[16], const uint8_t p[16], uint32_t aad_bits, const uint8_t *aad,
                size_t aad_length, uint32_t bits, const uint8_t *ciphertext, size_t length, uint8_t *out, size_t out_length);
+void bench_aes256(const uint8_t key[32], uint8_t block[16], uint32_t turns);
+void bench_keystream(const uint8_t key[32], const uint8_t nonce[12], uint32_t count, uint8_t out[16]);
 
 int main(int count, char **words)
 {
     static const size_t lengths[] = {0, 1, 15, 16, 17, 100, 1400};
-    uint8_t h[16], q[16], p[16], value[16], bytes[1400], tag[16];
+    static const uint8_t nonce[12] = {1, 2, 3};
+    uint8_t h[16], q[16], p[16], value[16], bytes[1400], tag[16], key[32], block[16], keystream[16];
     memset(h, 3, sizeof h);
     memset(q, 4, sizeof q);
     memset(p, 6, sizeof p);
     memset(value, 5, sizeof value);
     memset(bytes, 7, sizeof bytes);
+    memset(key, 8, sizeof key);
+    memset(block, 9, sizeof block);
     VALGRIND_MAKE_MEM_UNDEFINED(h, sizeof h);
     VALGRIND_MAKE_MEM_UNDEFINED(q, sizeof q);
     VALGRIND_MAKE_MEM_UNDEFINED(p, sizeof p);
     VALGRIND_MAKE_MEM_UNDEFINED(value, sizeof value);
     VALGRIND_MAKE_MEM_UNDEFINED(bytes, sizeof bytes);
+    VALGRIND_MAKE_MEM_UNDEFINED(key, sizeof key);
+    VALGRIND_MAKE_MEM_UNDEFINED(block, sizeof block);
     for (size_t i = 0; i < sizeof lengths / sizeof *lengths; i++) {
         uint32_t bits = (uint32_t)(8 * lengths[i]);
         bench_fold(h, value, bits, bytes, lengths[i]);
@@ -32,8 +39,12 @@ int main(int count, char **words)
             bench_fold(h, value, bits - 3, bytes, lengths[i]);
         bench_tag(h, q, p, 61, bytes, 8, bits, bytes, lengths[i], tag, 4 + i);
     }
+    for (uint32_t turns = 0; turns < 3; turns++)
+        bench_aes256(key, block, turns);
+    for (uint32_t count = 0; count < 20; count++)
+        bench_keystream(key, nonce, count, keystream);
     /* asked for a report, to see that one would be given */
-    if (count > 1 && strcmp(words[1], "report") == 0 && (value[0] ^ tag[0]) == 0)
+    if (count > 1 && strcmp(words[1], "report") == 0 && (value[0] ^ tag[0] ^ block[0] ^ keystream[0]) == 0)
         puts("zero");
     return 0;
 }
