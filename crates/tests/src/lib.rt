@@ -1,5 +1,6 @@
 //! Examples and boundaries of the library crates. The contracts say what holds for every input; these run the code.
 #![tactic(auto)]
 
+mod generators;
 mod recordings;
 mod refusals;
