@@ -13,16 +13,7 @@ use std::simd::prelude::*;
 pub fn shift_rows(q: Planes) -> Planes
     ensures { states result ≡ map shift_rows (states q) }
 {
-    Planes {
-        p0: shift_row(q.p0),
-        p1: shift_row(q.p1),
-        p2: shift_row(q.p2),
-        p3: shift_row(q.p3),
-        p4: shift_row(q.p4),
-        p5: shift_row(q.p5),
-        p6: shift_row(q.p6),
-        p7: shift_row(q.p7),
-    }
+    each_plane(q, shift_row)
 }
 
 /// Where each byte of the lanes comes from: lane `r` is row `r`, and its columns go `r` places on.
@@ -48,16 +39,7 @@ pub fn mix_columns(q: Planes) -> Planes
 fn one_row_up(q: Planes) -> Planes
     ensures { states result ≡ map (turned 1) (states q) }
 {
-    Planes {
-        p0: next_lane(q.p0),
-        p1: next_lane(q.p1),
-        p2: next_lane(q.p2),
-        p3: next_lane(q.p3),
-        p4: next_lane(q.p4),
-        p5: next_lane(q.p5),
-        p6: next_lane(q.p6),
-        p7: next_lane(q.p7),
-    }
+    each_plane(q, next_lane)
 }
 
 /// Each row two places up.
@@ -65,15 +47,30 @@ fn one_row_up(q: Planes) -> Planes
 fn two_rows_up(q: Planes) -> Planes
     ensures { states result ≡ map (turned 2) (states q) }
 {
+    each_plane(q, lane_after_next)
+}
+
+/// The planes that a function makes of each.
+fn each_plane<F: Fn(u32x4) -> u32x4>(q: Planes, f: F) -> Planes
+    requires { F.IsAlwaysCallable f }
+    ensures p0 { F.post f q.p0 result.p0 }
+    ensures p1 { F.post f q.p1 result.p1 }
+    ensures p2 { F.post f q.p2 result.p2 }
+    ensures p3 { F.post f q.p3 result.p3 }
+    ensures p4 { F.post f q.p4 result.p4 }
+    ensures p5 { F.post f q.p5 result.p5 }
+    ensures p6 { F.post f q.p6 result.p6 }
+    ensures p7 { F.post f q.p7 result.p7 }
+{
     Planes {
-        p0: lane_after_next(q.p0),
-        p1: lane_after_next(q.p1),
-        p2: lane_after_next(q.p2),
-        p3: lane_after_next(q.p3),
-        p4: lane_after_next(q.p4),
-        p5: lane_after_next(q.p5),
-        p6: lane_after_next(q.p6),
-        p7: lane_after_next(q.p7),
+        p0: f(q.p0),
+        p1: f(q.p1),
+        p2: f(q.p2),
+        p3: f(q.p3),
+        p4: f(q.p4),
+        p5: f(q.p5),
+        p6: f(q.p6),
+        p7: f(q.p7),
     }
 }
 
