@@ -2,10 +2,8 @@
 ghost use Rattle.std.specs.Prelude.{◌≡◌, length};
 ghost use Rattle.generator.specs.Generators.{Answers, Same};
 ghost use Rattle.generator.specs.Keystreams.{answer, written};
-ghost use Rattle.generator.specs.Pairs.{both};
 
 use super::generators::{Generator, Nonce, short};
-use super::pairs::Pair;
 use field::Block;
 use units::Refusal;
 
@@ -24,25 +22,11 @@ pub fn keystream<G: Generator>(
 {
     let reach = generator.reach(nonce);
     let end = first.checked_add(out.len() as u64);
-    if end.is_none_or(|end| end > reach) {
+    if !out.is_empty() && end.is_none_or(|end| end > reach) {
         return Err(short(reach));
     }
     for (k, block) in out.iter_mut().enumerate() {
         *block = generator.block(nonce, first + k as u64)?;
     }
     Ok(())
-}
-
-/// The sum of three keystreams, of a generator that is lent and of two that are not.
-fn keystream_of_three<A: Generator + Drop, B: Generator + Drop, C: Generator>(
-    a: A,
-    b: B,
-    c: &mut C,
-    nonce: &Nonce,
-    out: &mut [Block],
-) -> Result<(), Refusal>
-    ensures value { result ≡ answer (both (both (A.meaning a) (B.meaning b)) (C.meaning c.old)) nonce.now.0 0 (length out.old) }
-    ensures after { out.new ≡ written (both (both (A.meaning a) (B.meaning b)) (C.meaning c.old)) nonce.now.0 0 out.old }
-{
-    keystream(&mut Pair::new(Pair::new(a, b), c), nonce, 0, out)
 }

@@ -1,4 +1,10 @@
 //! Keystream of each kind of generator.
+ghost use Rattle.std.specs.Prelude.{◌≡◌, length};
+ghost use Rattle.generator.specs.AesGenerator.{aes_meaning};
+ghost use Rattle.generator.specs.Keystreams.{answer, written};
+ghost use Rattle.generator.specs.Pairs.{both};
+ghost use Rattle.recording.specs.Playing.{played};
+
 #[cfg(test)]
 mod tests {
     use field::Block;
@@ -77,18 +83,39 @@ mod tests {
         Ok(())
     }
 
+    // The keystream of a pair of a pair: of a key and a recording, and of another key.
+    fn of_three(
+        key: &Key,
+        recording: &[u8],
+        other: &Key,
+        nonce: &Nonce,
+        first: u64,
+        out: &mut [Block],
+    ) -> Result<(), Refusal>
+        ensures value { result ≡ answer (both (both (aes_meaning key.now.0) (played recording.now)) (aes_meaning other.now.0)) nonce.now.0 first (length out.old) }
+        ensures after { out.new ≡ written (both (both (aes_meaning key.now.0) (played recording.now)) (aes_meaning other.now.0)) nonce.now.0 first out.old }
+    {
+        let inner = Pair::new(AesGenerator::new(key), Playback::new(recording));
+        let mut pair = Pair::new(inner, AesGenerator::new(other));
+        keystream(&mut pair, nonce, first, out)
+    }
+
     // The same key twice falls out of the sum.
     #[test]
     fn pair_of_a_pair(rt: HostRuntime) -> Result<(), Fail> {
         let key = Key([5; 32]);
-        let inner = Pair::new(AesGenerator::new(&key), Playback::new(&RECORDING));
-        let mut pair = Pair::new(inner, AesGenerator::new(&key));
         let mut out = [Block::ZERO; 3];
-        assert_eq!(rt; keystream(&mut pair, &NONCE, 0, &mut out), Ok(()));
+        assert_eq!(rt;
+            of_three(&key, &RECORDING, &key, &NONCE, 0, &mut out),
+            Ok(())
+        );
         assert_eq!(rt; out[0].to_bytes(), [1; 16]);
         assert_eq!(rt; out[1].to_bytes(), [2; 16]);
         assert_eq!(rt; out[2].to_bytes(), [3; 16]);
-        assert_eq!(rt; keystream(&mut pair, &NONCE, 1, &mut out), short(3));
+        assert_eq!(rt;
+            of_three(&key, &RECORDING, &key, &NONCE, 1, &mut out),
+            short(3)
+        );
         Ok(())
     }
 }
