@@ -1,6 +1,6 @@
 /* Measures AES-256: time stamp counter cycles a block, in batches of eight and as a generator gives them, and cycles for a key.
  *
- * Before anything is measured, it is compared with a plain one, byte by byte, under keys and on blocks by chance. */
+ * Before anything is measured, it is compared with a plain one, byte by byte, under random keys and on random blocks. */
 #include <stdint.h>
 #include <stdio.h>
 #include <stdlib.h>

@@ -1,4 +1,4 @@
--- AES of FIPS 197, section 5.1: the cipher, in the order and with the names of the standard. A state is the list of its
+-- AES of FIPS 197 (2023), section 5.1: the cipher, in the order and with the names of the standard. A state is the list of its
 -- sixteen bytes, column by column, and so is a round key.
 use Rattle.std.specs.Prelude.{ℕ, zero, suc, ◌+◌, ◌*◌, ◌/◌, ◌%◌, List, [], map, slice_index, slice_index_or}
 use Rattle.std.specs.List.{range_with_len}

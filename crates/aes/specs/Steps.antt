@@ -7,17 +7,19 @@ use Rattle.aes.specs.Cipher.{at, state_of}
 pub record Moved (row : ℕ → ℕ) (column : ℕ → ℕ → ℕ) (from to : List ℕ) : Type 0 where
   pub moved : (r c b : ℕ) → r < 4 → c < 4 → b < 8 → bit r (8 * c + b) to ≡ bit (row r) (8 * column r c + b) from
 
--- where the bytes come from in ShiftRows
+-- every row where it is
 abbrev pub same_row : ℕ → ℕ
 same_row r = r
 
+-- a column as many places on as its row says
 abbrev pub next_column : ℕ → ℕ → ℕ
 next_column r c = (c + r) % 4
 
--- and where n rows go up, the uppermost to the bottom
+-- the row n places down, the uppermost after the lowest
 abbrev pub row_below : ℕ → ℕ → ℕ
 row_below n r = (r + n) % 4
 
+-- every column where it is
 abbrev pub same_column : ℕ → ℕ → ℕ
 same_column r c = c
 

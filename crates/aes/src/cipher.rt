@@ -1,11 +1,9 @@
 //! The cipher of AES-256.
 ghost use Rattle.std.specs.Prelude.{◌≡◌, ◌<◌, map};
-ghost use Rattle.planes.specs.Planes.{states};
-ghost use Rattle.aes.specs.Cipher.{round};
 ghost use Rattle.aes.specs.KeyExpansion.{round_key_of, round_keys_of};
 ghost use Rattle.aes.specs.RoundKeys.{key_of};
 
-use super::key_expansion::key_expansion;
+use super::key_expansion::{WORDS, key_expansion};
 use super::round_keys::RoundKey;
 use super::steps::{mix_columns, shift_rows};
 use byte_field::sub_bytes;
@@ -21,10 +19,11 @@ const LAST_ROUND: usize = 14;
 const BATCH: usize = 8;
 
 /// AES-256 under one key. The round keys are made once. All of it is secret, so it has neither `Debug` nor equality.
-#[derive(Clone, Copy)]
+#[derive(Drop)]
 pub struct Aes256 {
+    // Kept for the contracts: what blocks are encrypted to is a function of it.
     key: [u8; 32],
-    round_keys: [RoundKey; 15],
+    round_keys: [RoundKey; ROUND_KEYS],
     ghost expanded: { map key_of round_keys ≡ round_keys_of key },
 }
 
@@ -65,7 +64,7 @@ impl Aes256 {
     }
 
     /// The encryptions of eight blocks.
-    pub fn encrypt_eight(&self, blocks: &[[u8; 16]; 8]) -> [[u8; 16]; 8]
+    pub fn encrypt_eight(&self, blocks: &[[u8; 16]; BATCH]) -> [[u8; 16]; BATCH]
         ensures { result ≡ map (aes256 self.now.key) blocks.now }
     {
         let mut q = self.round_keys[0].add_to(Planes::from_blocks(blocks));
@@ -78,7 +77,7 @@ impl Aes256 {
 }
 
 /// The sixteen bytes of a round key: four words.
-fn round_key(words: &[[u8; 4]; 60], round: usize) -> [u8; 16]
+fn round_key(words: &[[u8; 4]; WORDS], round: usize) -> [u8; 16]
     requires { round < 15 }
     ensures { result ≡ round_key_of words.now round }
 {

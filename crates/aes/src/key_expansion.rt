@@ -1,5 +1,5 @@
 //! KeyExpansion: the words of a key, and those that are made of them.
-ghost use Rattle.std.specs.Prelude.{◌≡◌, ◌≤◌, ◌<◌, flat_map, take, drop, ◌*◌};
+ghost use Rattle.std.specs.Prelude.{◌≡◌, ◌≤◌, ◌<◌};
 ghost use Rattle.units.specs.Sums.{sums};
 ghost use Rattle.aes.specs.KeyExpansion.{addend, key_expansion, sub_word};
 
@@ -10,14 +10,14 @@ use planes::Planes;
 const KEY_WORDS: usize = 8;
 
 /// How many words there are for fifteen round keys.
-const WORDS: usize = 60;
+pub const WORDS: usize = 60;
 
 /// The powers of x that go into each eighth word from the eighth on.
 const ROUND_CONSTANTS: [u8; 7] = [1, 2, 4, 8, 16, 32, 64];
 
 /// The sixty words of a key.
 #[tactic(auto, using(crate::proofs::KeyLaws::no_words, crate::proofs::KeyLaws::not_expanded))]
-pub fn key_expansion(key: &[u8; 32]) -> [[u8; 4]; 60]
+pub fn key_expansion(key: &[u8; 32]) -> [[u8; 4]; WORDS]
     ensures { result ≡ key_expansion key.now }
 {
     let mut words = [[0; 4]; WORDS];

@@ -16,7 +16,7 @@ pub fn shift_rows(q: Planes) -> Planes
     each_plane(q, shift_row)
 }
 
-/// Where each byte of the lanes comes from: lane `r` is row `r`, and its columns go `r` places on.
+/// Where each byte of the lanes comes from: column `c` of row `r`, which is lane `r`, from column `c + r`, counted modulo 4.
 const COLUMNS: [usize; 16] = [0, 1, 2, 3, 5, 6, 7, 4, 10, 11, 8, 9, 15, 12, 13, 14];
 
 fn shift_row(x: u32x4) -> u32x4
@@ -25,7 +25,7 @@ fn shift_row(x: u32x4) -> u32x4
     u32x4::from_le_bytes(x.to_le_bytes().swizzle(COLUMNS))
 }
 
-/// MixColumns. A byte is the sum of the three below it in its column, and of x times the byte and the next.
+/// MixColumns. A byte is the sum of the three below it in its column, and of x times the sum of the byte and the next.
 pub fn mix_columns(q: Planes) -> Planes
     ensures { states result ≡ map mix_columns (states q) }
 {

@@ -47,7 +47,7 @@ pub extern "C" fn bench_tag(
     keys.tag(bit_string(aad_bits, aad), bit_string(bits, ciphertext), out);
 }
 
-/// Encrypts a block as many times as there are turns, in the place of each of eight.
+/// Encrypts a block as often as `turns` says, eight copies of it at a time.
 #[unsafe(no_mangle)]
 pub extern "C" fn bench_aes256(key: &[u8; 32], block: &mut [u8; 16], turns: u32)
     ensures { block.new ≡ again turns key.now block.old }

@@ -1,4 +1,4 @@
--- The field of the bytes, in the order of FIPS 197, section 4. Bit k of a byte is the coefficient of x^k.
+-- The field of the bytes, in the order of FIPS 197 (2023), section 4. Bit k of a byte is the coefficient of x^k.
 use Rattle.std.specs.Prelude.{◌≡◌, ℕ, zero, suc, ◌*◌, ◌/◌, ◌%◌, ◌^◌, ◌<◌}
 use Rattle.units.specs.Sums.{◌⊕◌}
 use Rattle.polynomials.specs.Polynomials.{digitwise, product}
@@ -9,7 +9,7 @@ use Rattle.polynomials.specs.Polynomials.{digitwise, product}
 abbrev pub modulus : ℕ
 modulus = 0x11B
 
--- x times a byte (4.2): one place up, and where x^8 then stands, the modulus is taken away
+-- XTIMES, x times a byte (4.2): one place up, and where x^8 then stands, the modulus is taken away
 unfoldable pub xtime : ℕ → ℕ
 xtime b = b * 2 ⊕ b / 2 ^ 7 % 2 * modulus
 

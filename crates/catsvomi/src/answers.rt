@@ -82,10 +82,9 @@ error: line N: and why, and the run goes on. An account comes at the end.
       The tag of SIZE bytes, 4 to 16, of an AAD and a ciphertext, data. Each has
       exactly the bytes that its bits fill.
   aes256 key=TEXT block=BLOCK
-      The encryption of a block under a key, a block. A key's TEXT is 64 digits
-      0 to 9 or a to f.
+      The encryption of a block under a key, a block.
   key text=TEXT
-      Says whether a text is that of a key.
+      Says whether a text is that of a key, 64 digits 0 to 9 or a to f.
   blocks key=TEXT nonce=HEX first=INDEX count=COUNT
       COUNT blocks of keystream, at most 65536, under a nonce of 12 bytes, from an
       index on. With recording=HEX in the place of key=, those of a recording;

@@ -78,7 +78,7 @@ impl Command {
             Command::Aes256 => Ok(Answer::of(generator_commands::aes256(fields)?.map(
                 Answer::Block,
             ))),
-            Command::Key => Ok(Answer::of(generator_commands::key(fields)?.map(|_| Answer::Ok))),
+            Command::Key => Ok(Answer::of(generator_commands::key(fields)?.map(|()| Answer::Ok))),
             Command::Blocks => Ok(Answer::of(generator_commands::blocks(fields)?.map(
                 Answer::Blocks,
             ))),

@@ -15,6 +15,8 @@ pub enum Unreadable<'a> {
     Twice(&'a str),
     #[error("'{0}=' is missing")]
     Missing(&'static str),
+    #[error("'{0}=' and '{1}=' are both given")]
+    Both(&'static str, &'static str),
     #[error("'{0}=' does not belong to this command")]
     Unexpected(&'a str),
     #[error("'{0}=' is not hexadecimal, two digits to a byte, or - for none")]

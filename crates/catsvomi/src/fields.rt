@@ -80,10 +80,11 @@ impl<'a> Fields<'a> {
         key: &'static str,
         recording: &'static str,
     ) -> Result<Result<Source, Refusal>, Unreadable<'a>> {
-        if self.has(recording) {
-            return Ok(Ok(Source::Recording(self.bytes(recording)?)));
+        match (self.has(key), self.has(recording)) {
+            (true, true) => Err(Unreadable::Both(key, recording)),
+            (false, true) => Ok(Ok(Source::Recording(self.bytes(recording)?))),
+            _ => Ok(self.key(key)?.map(Source::Key)),
         }
-        Ok(self.key(key)?.map(Source::Key))
     }
 
     /// The same, if either is there.
@@ -157,8 +158,8 @@ impl<'a> Fields<'a> {
         Ok(Vec::from_elem(self.heap, 0, count)?)
     }
 
-    /// Room for so many blocks.
-    pub fn blocks(&self, count: usize) -> Result<Vec<Block>, Unreadable<'a>> {
+    /// A buffer of so many blocks for an answer.
+    pub fn block_buffer(&self, count: usize) -> Result<Vec<Block>, Unreadable<'a>> {
         Ok(Vec::from_elem(self.heap, Block::ZERO, count)?)
     }
 

@@ -30,29 +30,29 @@ pub fn key<'a>(fields: &mut Fields<'a>) -> Result<Result<(), Refusal>, Unreadabl
 
 /// Keystream of a key, of a recording, or of a pair of two such.
 pub fn blocks<'a>(fields: &mut Fields<'a>) -> Result<Result<Vec<Block>, Refusal>, Unreadable<'a>> {
-    let half = fields.source("key", "recording")?;
-    let other = fields.optional_source("with_key", "with_recording")?;
+    let source = fields.source("key", "recording")?;
+    let with = fields.optional_source("with_key", "with_recording")?;
     let nonce = fields.nonce("nonce")?;
     let first = fields.index("first")?;
     let count = fields.number("count", 0..=MOST_BLOCKS)?;
-    let mut out = fields.blocks(count as usize)?;
-    Ok(write_blocks(half, other, &nonce, first, out.as_mut_slice()).map(|_| out))
+    let mut out = fields.block_buffer(count as usize)?;
+    Ok(fill(source, with, &nonce, first, out.as_mut_slice()).map(|()| out))
 }
 
-/// Writes keystream from an index on.
-fn write_blocks(
-    half: Result<Source, Refusal>,
-    other: Result<Option<Source>, Refusal>,
+/// Fills a buffer with keystream from an index on.
+fn fill(
+    source: Result<Source, Refusal>,
+    with: Result<Option<Source>, Refusal>,
     nonce: &Nonce,
     first: u64,
     out: &mut [Block],
 ) -> Result<(), Refusal> {
-    let half = half?;
-    let mut generator = half.generator();
-    match other? {
+    let source = source?;
+    let mut generator = source.generator();
+    match with? {
         None => keystream(&mut generator, nonce, first, out),
-        Some(other) => {
-            let mut pair = Pair::new(generator, other.generator());
+        Some(with) => {
+            let mut pair = Pair::new(generator, with.generator());
             keystream(&mut pair, nonce, first, out)
         }
     }

@@ -1,6 +1,4 @@
 //! What a line gives for a generator of keystream: a key or a recording.
-ghost use Rattle.generator.specs.Generators.{Meaning};
-
 use field::Block;
 use generator::{AesGenerator, Generator, Key, Nonce};
 use recording::Playback;

@@ -25,7 +25,7 @@ struct Batch {
 
 /// AES-256 as a generator. Blocks are made eight at a time, and the last eight are kept. All of it is secret, so it has
 /// neither `Debug` nor equality.
-#[derive(Clone, Copy)]
+#[derive(Drop)]
 pub struct AesGenerator {
     aes: Aes256,
     kept: Batch,
@@ -38,7 +38,7 @@ impl AesGenerator {
         ensures { result.aes.key ≡ key.now.0 }
     {
         let aes = Aes256::new(&key.0);
-        // so that there always are blocks to keep
+        // Those of some nonce, so that there always are blocks that are kept.
         let kept = Batch::new(&aes, &Nonce([0; 12]), 0);
         AesGenerator { aes, kept }
     }

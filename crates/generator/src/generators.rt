@@ -5,7 +5,7 @@ ghost use Rattle.generator.specs.Generators.{Meaning, Same, Sound, answered, sho
 use field::Block;
 use units::{Layer, Reason, Refusal};
 
-/// What a keystream is asked for by: under the same nonce a generator gives the same blocks.
+/// A nonce. Under the same nonce a generator always gives the same blocks.
 #[derive(Clone, Copy, Debug, PartialEq, Eq)]
 pub struct Nonce(pub [u8; 12]);
 

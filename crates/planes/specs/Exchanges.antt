@@ -18,7 +18,8 @@ either a b (suc u) = b
 abbrev pub Masks : ℕ → ℕ → Type 0
 Masks n mask = (k : ℕ) → k < 32 → mask / 2 ^ k % 2 + k / n % 2 ≡ 1
 
--- in c and d, made of a and b, the bit worth n of a place says from which of the two planes it comes, and the plane the place
+-- c and d are a and b with bits exchanged: where the bit worth n of a place is v, plane u of the two has what plane v had at
+-- the place with that bit set to u
 pub record Exchanged (n : ℕ) (a b c d : List ℕ) : Type 0 where
   pub moved :
       (row place u : ℕ) → row < 4 → place < 32 → u < 2

@@ -46,11 +46,13 @@ impl BitXor for Planes {
     }
 }
 
-/// Even places, and those whose number has its second or its third bit 0.
+/// The even places.
 const ONE_OF_TWO: u32 = 0x5555_5555;
 
+/// The places whose number has its second bit 0.
 const TWO_OF_FOUR: u32 = 0x3333_3333;
 
+/// The places whose number has its third bit 0.
 const FOUR_OF_EIGHT: u32 = 0x0F0F_0F0F;
 
 /// The bytes of a state row by row.
@@ -93,8 +95,8 @@ impl Planes {
         ]
     }
 
-    /// The planes with the number of a plane and the number of a place in its column exchanged: from eight states in the
-    /// eight planes one by one to their bits apart, and back.
+    /// In each column the number of a plane and that of a place are exchanged: planes of one state each become planes of one
+    /// bit of all eight, and back.
     #[tactic(auto, using(crate::proofs::ExchangeLaws::transposed))]
     fn transposed(self) -> Planes
         ensures { Transposed self result }
