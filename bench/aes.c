@@ -5,17 +5,13 @@
 #include <stdio.h>
 #include <stdlib.h>
 #include <string.h>
-#include <time.h>
-#include <x86intrin.h>
+#include "timing.h"
 
 /* The exported calls, of crates/bench. */
 void bench_aes256(const uint8_t key[32], uint8_t block[16], uint32_t turns);
 void bench_keystream(const uint8_t key[32], const uint8_t nonce[12], uint32_t count, uint8_t out[16]);
 
-enum { ROUNDS = 31, TURNS = 4000, KEYS = 500, COMPARED = 2000 };
-
-/* So long, in nanoseconds, the processor is kept busy before the first round. */
-static const double WARM_UP = 5e8;
+enum { TURNS = 4000, KEYS = 500, COMPARED = 2000 };
 
 static uint8_t sbox[256];
 
@@ -110,22 +106,6 @@ static void compare(void)
     }
 }
 
-static double nanoseconds(void)
-{
-    struct timespec now;
-    clock_gettime(CLOCK_MONOTONIC, &now);
-    return now.tv_sec * 1e9 + now.tv_nsec;
-}
-
-static int by_value(const void *a, const void *b)
-{
-    double x = *(const double *)a, y = *(const double *)b;
-    return (x > y) - (x < y);
-}
-
-/* What is measured, a number of times. */
-typedef void measured(uint32_t times);
-
 static uint8_t key[32], nonce[12], block[16];
 
 static void batches(uint32_t times)
@@ -150,19 +130,9 @@ static void generators(uint32_t times)
         bench_keystream(key, nonce, 0, block);
 }
 
-static void measure(const char *what, measured *run, uint32_t times, double each)
+static void show(const char *what, struct figures of)
 {
-    double ns[ROUNDS], tsc[ROUNDS];
-    for (int round = 0; round < ROUNDS; round++) {
-        double started = nanoseconds();
-        uint64_t counted = __rdtsc();
-        run(times);
-        tsc[round] = (double)(__rdtsc() - counted) / (times * each);
-        ns[round] = (nanoseconds() - started) / (times * each);
-    }
-    qsort(ns, ROUNDS, sizeof *ns, by_value);
-    qsort(tsc, ROUNDS, sizeof *tsc, by_value);
-    printf("| %s | %.1f | %.0f | %.0f |\n", what, ns[ROUNDS / 2], tsc[ROUNDS / 2], tsc[0]);
+    printf("| %s | %.1f | %.1f | %.0f | %.0f |\n", what, of.ns_median, of.ns_least, of.tsc_median, of.tsc_least);
 }
 
 int main(void)
@@ -170,13 +140,11 @@ int main(void)
     srand(1);
     make_sbox();
     compare();
-    double started = nanoseconds();
-    while (nanoseconds() - started < WARM_UP)
-        batches(TURNS);
-    printf("| what | ns, median | tsc cycles, median | tsc cycles, least |\n|---|---|---|---|\n");
-    measure("a block, in batches of eight", batches, TURNS, 8);
-    measure("a block of the generator", generator, TURNS, 8);
-    measure("a key", keys, KEYS, 1);
-    measure("a generator of a key", generators, KEYS, 1);
+    warm_up(batches, TURNS);
+    printf("| what | ns, median | ns, least | tsc cycles, median | tsc cycles, least |\n|---|---|---|---|---|\n");
+    show("a block, in batches of eight", measure(batches, TURNS, 8));
+    show("a block of the generator", measure(generator, TURNS, 8));
+    show("a key", measure(keys, KEYS, 1));
+    show("a generator of a key", measure(generators, KEYS, 1));
     return 0;
 }

@@ -5,16 +5,12 @@
 #include <stdio.h>
 #include <stdlib.h>
 #include <string.h>
-#include <time.h>
-#include <x86intrin.h>
+#include "timing.h"
 
 /* The exported call, of crates/bench. A slice is a pointer and then a length. */
 void bench_fold(const uint8_t h[16], uint8_t value[16], uint32_t bits, const uint8_t *bytes, size_t length);
 
-enum { ROUNDS = 31, BLOCKS_A_ROUND = 20000 };
-
-/* So long, in nanoseconds, the processor is kept busy before the first round. */
-static const double WARM_UP = 5e8;
+enum { BLOCKS_A_ROUND = 20000 };
 
 /* a = a * b * x^-128, from the low bit up: add b where the bit is set, then divide by x. */
 static void plain_dot(uint8_t a[16], const uint8_t b[16])
@@ -56,53 +52,32 @@ static void compare(const uint8_t h[16], const uint8_t *bytes)
     }
 }
 
-static double nanoseconds(void)
-{
-    struct timespec now;
-    clock_gettime(CLOCK_MONOTONIC, &now);
-    return now.tv_sec * 1e9 + now.tv_nsec;
-}
+static uint8_t h[16], value[16], bytes[16384];
+static size_t length;
 
-static int by_value(const void *a, const void *b)
+static void folds(uint32_t times)
 {
-    double x = *(const double *)a, y = *(const double *)b;
-    return (x > y) - (x < y);
-}
-
-static void measure(const uint8_t h[16], const uint8_t *bytes, size_t length)
-{
-    double ns[ROUNDS], tsc[ROUNDS];
-    size_t blocks = (length + 15) / 16, turns = BLOCKS_A_ROUND / blocks;
-    uint8_t value[16] = {0};
-    for (int round = 0; round < ROUNDS; round++) {
-        double started = nanoseconds();
-        uint64_t counted = __rdtsc();
-        for (size_t turn = 0; turn < turns; turn++)
-            bench_fold(h, value, (uint32_t)(8 * length), bytes, length);
-        tsc[round] = (double)(__rdtsc() - counted) / (turns * blocks);
-        ns[round] = (nanoseconds() - started) / (turns * blocks);
-    }
-    qsort(ns, ROUNDS, sizeof *ns, by_value);
-    qsort(tsc, ROUNDS, sizeof *tsc, by_value);
-    printf("| %zu | %zu | %.1f | %.1f | %.0f |\n", length, blocks, ns[ROUNDS / 2], ns[0], tsc[ROUNDS / 2]);
+    for (uint32_t turn = 0; turn < times; turn++)
+        bench_fold(h, value, (uint32_t)(8 * length), bytes, length);
 }
 
 int main(void)
 {
     static const size_t lengths[] = {16, 64, 160, 1400, 16384};
-    uint8_t h[16], value[16] = {0};
-    static uint8_t bytes[16384];
     srand(1);
     for (size_t i = 0; i < sizeof h; i++)
         h[i] = (uint8_t)rand();
     for (size_t i = 0; i < sizeof bytes; i++)
         bytes[i] = (uint8_t)rand();
     compare(h, bytes);
-    double started = nanoseconds();
-    while (nanoseconds() - started < WARM_UP)
-        bench_fold(h, value, 8 * sizeof bytes, bytes, sizeof bytes);
+    length = sizeof bytes;
+    warm_up(folds, 1);
     printf("| bytes | blocks | ns a block, median | ns a block, least | tsc cycles a block, median |\n|---|---|---|---|---|\n");
-    for (size_t i = 0; i < sizeof lengths / sizeof *lengths; i++)
-        measure(h, bytes, lengths[i]);
+    for (size_t i = 0; i < sizeof lengths / sizeof *lengths; i++) {
+        length = lengths[i];
+        size_t blocks = (length + 15) / 16;
+        struct figures of = measure(folds, (uint32_t)(BLOCKS_A_ROUND / blocks), (double)blocks);
+        printf("| %zu | %zu | %.1f | %.1f | %.0f |\n", length, blocks, of.ns_median, of.ns_least, of.tsc_median);
+    }
     return 0;
 }
