@@ -1,24 +1,21 @@
 -- That an encryption is a block: sixteen bytes.
-use Rattle.std.proofs.Common.{◌≡◌, ℕ, zero, suc, ◌+◌, ◌*◌, ◌/◌, ◌%◌, ◌<◌, List, [], ◌∷◌, map, length, get_or, sym, refl, ap, subst, ◌∙◌, ◌^◌, mod-lt, arith, lit<}
+use Rattle.std.proofs.Common.{◌≡◌, ℕ, zero, suc, ◌+◌, ◌*◌, ◌/◌, ◌%◌, ◌<◌, List, [], ◌∷◌, map, length, get_or, sym, refl, ap, subst, ◌∙◌, arith}
 use Rattle.std.specs.List.{range_with_len}
 use Rattle.std.proofs.lemmas.List.{length-map}
 use Rattle.units.specs.Strings.{Octets}
+use Rattle.units.proofs.StringLaws.{Octets-map}
 use Rattle.units.proofs.SumLaws.{Octets-sums, length-sums}
 use Rattle.planes.specs.declared.Planes.{Planes}
 use Rattle.planes.specs.Planes.{bit, byte, planes, state}
 use Rattle.byte_field.proofs.Bits.{number_lt}
 use Rattle.byte_field.proofs.SboxLaws.{sbox_lt}
+use Rattle.byte_field.proofs.Wires.{bit_lt}
 use Rattle.byte_field.specs.Sbox.{sbox}
 use Rattle.aes.specs.Cipher.{cipher, round_key, rounds, shift_rows}
 use Rattle.aes.specs.KeyExpansion.{aes256, round_keys_of}
 use Rattle.aes.specs.RoundKeys.{key_of}
 use Rattle.aes.specs.declared.cipher.Aes256.{Aes256}
 use Rattle.aes.specs.declared.round_keys.RoundKey.{RoundKey}
-
-Octets-map : (f : ℕ → ℕ) (xs : List ℕ) → ((x : ℕ) → f x < 256) → Octets (map f xs)
-Octets-map f [] h k = lit< tt
-Octets-map f (x ∷ xs) h zero = h x
-Octets-map f (x ∷ xs) h (suc k) = Octets-map f xs h k
 
 state_sixteen : (q : Planes) → length (state q 0) ≡ 16
 unfolding state
@@ -28,7 +25,7 @@ state_octets : (q : Planes) → Octets (state q 0)
 unfolding state byte
 state_octets q =
     Octets-map (λ k. byte q 0 (k % 4) (k / 4)) (range_with_len 0 16)
-    (λ k. number_lt (bit (k % 4) (8 * (k / 4) + 0)) (λ plane. mod-lt (get_or plane (k % 4) 0 / 2 ^ (8 * (k / 4) + 0)) (lit< tt)) (planes q))
+    (λ k. number_lt (bit (k % 4) (8 * (k / 4) + 0)) (bit_lt (k % 4) (8 * (k / 4) + 0)) (planes q))
 
 one_of_all : (P : List ℕ → Type 0) → ((k : RoundKey) → P (key_of k)) → (ks : List RoundKey) (i : ℕ) → i < length ks → P (get_or (map key_of ks) i [])
 one_of_all P h [] i l = absurd (omega arith)

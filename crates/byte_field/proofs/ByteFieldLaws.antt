@@ -1,15 +1,15 @@
 -- The field of the bytes.
-use Rattle.std.proofs.Common.{◌≡◌, ℕ, zero, suc, ◌+◌, ◌*◌, ◌/◌, ◌%◌, ◌^◌, ◌-◌, ◌<◌, true, eqb, ltb, bit_xor, sym, subst, le_trans, div-lt_iff_lt-mul, pow_pos, pow_mono, refl, ap, ◌∙◌, ap₂, one-mul, zero-mul, arith, lit<, pow-suc}
+use Rattle.std.proofs.Common.{◌≡◌, ℕ, zero, suc, ◌+◌, ◌*◌, ◌/◌, ◌%◌, ◌^◌, ◌-◌, ◌<◌, true, ltb, bit_xor, sym, subst, le_trans, div-lt_iff_lt-mul, pow_pos, pow_mono, refl, ap, ◌∙◌, ap₂, one-mul, zero-mul, arith, lit<, pow-suc}
 use Rattle.std.proofs.Math.Arith.{bin_ind}
 use Rattle.std.proofs.Math.Nat.{div-eq_of_lt}
 use Rattle.std.proofs.lemmas.Nat.{xor_lt, xor_shr, shl-shr, shr-shr}
-use Rattle.std.proofs.lemmas.Bool.{eqb-true, ltb-true}
+use Rattle.std.proofs.lemmas.Bool.{agree_below_at, ltb-true}
 use Rattle.std.specs.Int.Bits.{xor_zero_r}
 use Rattle.units.specs.Sums.{◌⊕◌}
 use Rattle.units.proofs.SumLaws.{low_either, shl-xor, terms, xor_cancel, xor_four, xor_low}
 use Rattle.polynomials.specs.Polynomials.{digitwise, product}
 use Rattle.polynomials.proofs.ProductLaws.{digitwise_step, product_bit, product_lt, product-pow, product-shl_l, product_step, product-xor_l, product-xor_r, product-zero_l}
-use Rattle.byte_field.proofs.EveryByte.{every, every_tells}
+use Rattle.planes.proofs.BitLaws.{same_below}
 use Rattle.byte_field.specs.ByteField.{ByteFieldStands, Congruent, Reduced, inverse, modulus, mul, squares, xtime}
 
 -- ---- times x
@@ -24,12 +24,12 @@ xtime_zero : xtime 0 ≡ 0
 unfolding xtime
 xtime_zero = refl
 
-bytes_doubled : every 256 (λ b. ltb (xtime b) 256) ≡ true
+bytes_doubled : (b : ℕ) → b < 256 → ltb (xtime b) 256 ≡ true
 unfolding xtime
-bytes_doubled = refl
+bytes_doubled b = agree_below_at (λ x. ltb (xtime x) 256) (λ _. true) 256 b refl
 
 pub xtime_lt : (b : ℕ) → b < 256 → xtime b < 256
-xtime_lt b h = ltb-true (xtime b) 256 (every_tells 256 (λ x. ltb (xtime x) 256) bytes_doubled b h)
+xtime_lt b h = ltb-true (xtime b) 256 (bytes_doubled b h)
 
 -- what is taken away is a multiple of the modulus
 xtime_back : (b : ℕ) → b * 2 ≡ product (b / 2 ^ 7 % 2) modulus ⊕ xtime b
@@ -130,9 +130,9 @@ mul_reduced a b h =
 
 -- ---- inverses
 
-inverses : every 255 (λ b. eqb (mul (b + 1) (inverse (b + 1))) 1) ≡ true
+inverses : (b : ℕ) → b < 255 → mul (b + 1) (inverse (b + 1)) ≡ 1
 unfolding inverse squares mul digitwise xtime
-inverses = refl
+inverses = same_below (λ b. mul (b + 1) (inverse (b + 1))) (λ _. 1) 255 refl
 
 inverse_zero : inverse 0 ≡ 0
 unfolding inverse squares mul digitwise xtime
@@ -141,8 +141,7 @@ inverse_zero = refl
 inverse_is : (b : ℕ) → 0 < b → b < 256 → mul b (inverse b) ≡ 1
 inverse_is b pos h =
     let back : b - 1 + 1 ≡ b = omega arith in
-    ap (λ (x : ℕ). mul x (inverse x)) (sym back)
-    ∙ eqb-true (mul (b - 1 + 1) (inverse (b - 1 + 1))) 1 (every_tells 255 (λ x. eqb (mul (x + 1) (inverse (x + 1))) 1) inverses (b - 1) (omega arith))
+    ap (λ (x : ℕ). mul x (inverse x)) (sym back) ∙ inverses (b - 1) (omega arith)
 
 pub byte_field_stands : ByteFieldStands
 byte_field_stands =

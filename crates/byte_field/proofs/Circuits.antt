@@ -1,14 +1,15 @@
 -- The circuits of `doubled` and `sub_bytes`, and that they give of each byte what they should.
-use Rattle.std.proofs.Common.{◌≡◌, ℕ, true, eqb, List, [], ◌∷◌, map, refl}
+use Rattle.std.proofs.Common.{◌≡◌, ℕ, ◌<◌, List, [], ◌∷◌, map, refl}
 use Rattle.std.specs.Int.{bit_at}
 use Rattle.std.specs.Simd.Lanes.{number_l}
 use Rattle.planes.specs.Planes.{planes, states}
 use Rattle.planes.specs.declared.Planes.{Planes}
+use Rattle.planes.proofs.BitLaws.{same_below}
+use Rattle.planes.proofs.PlaneLaws.{FourLanes}
 use Rattle.polynomials.specs.Polynomials.{digitwise}
 use Rattle.byte_field.specs.ByteField.{inverse, mul, squares, xtime}
 use Rattle.byte_field.specs.Sbox.{sbox}
-use Rattle.byte_field.proofs.EveryByte.{every}
-use Rattle.byte_field.proofs.Wires.{FourLanes, Gates, on_bits, on_planes, on_wires, plane_of, wire}
+use Rattle.byte_field.proofs.Wires.{Gates, on_bits, on_planes, on_wires, plane_of, wire}
 use Rattle.byte_field.proofs.OnPlanes.{circuit_on_planes, from}
 
 -- ---- times x
@@ -16,9 +17,9 @@ use Rattle.byte_field.proofs.OnPlanes.{circuit_on_planes, from}
 unfoldable pub doubled_circuit : {A : Type 0} → Gates A → (ℕ → A) → List A
 doubled_circuit g x = x 7 ∷ g.xor (x 0) (x 7) ∷ x 1 ∷ g.xor (x 2) (x 7) ∷ g.xor (x 3) (x 7) ∷ x 4 ∷ x 5 ∷ x 6 ∷ []
 
-doubled_all : every 256 (λ b. eqb (number_l 2 (doubled_circuit on_bits (bit_at b))) (xtime b)) ≡ true
+doubled_all : (b : ℕ) → b < 256 → number_l 2 (doubled_circuit on_bits (bit_at b)) ≡ xtime b
 unfolding doubled_circuit xtime
-doubled_all = refl
+doubled_all = same_below (λ b. number_l 2 (doubled_circuit on_bits (bit_at b))) xtime 256 refl
 
 pub doubled_states : (q : Planes) → FourLanes (planes q) → states (from (doubled_circuit on_planes (plane_of (planes q)))) ≡ map (map xtime) (states q)
 unfolding doubled_circuit
@@ -167,9 +168,9 @@ sbox_circuit g x =
     let s2 = xor (xor t55 t67) ones in
     s7 ∷ s6 ∷ s5 ∷ s4 ∷ s3 ∷ s2 ∷ s1 ∷ s0 ∷ []
 
-sbox_all : every 256 (λ b. eqb (number_l 2 (sbox_circuit on_bits (bit_at b))) (sbox b)) ≡ true
+sbox_all : (b : ℕ) → b < 256 → number_l 2 (sbox_circuit on_bits (bit_at b)) ≡ sbox b
 unfolding sbox_circuit sbox inverse squares mul digitwise xtime
-sbox_all = refl
+sbox_all = same_below (λ b. number_l 2 (sbox_circuit on_bits (bit_at b))) sbox 256 refl
 
 pub sbox_states : (q : Planes) → FourLanes (planes q) → states (from (sbox_circuit on_planes (plane_of (planes q)))) ≡ map (map sbox) (states q)
 unfolding sbox_circuit

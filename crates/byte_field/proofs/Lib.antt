@@ -1,5 +1,4 @@
 pub mod Bits
-pub mod EveryByte
 pub mod ByteFieldLaws
 pub mod SboxLaws
 pub mod Wires

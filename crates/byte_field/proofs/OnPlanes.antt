@@ -1,31 +1,22 @@
 -- A function of bytes, on each byte of eight states, by a circuit.
-use Rattle.std.proofs.Common.{◌≡◌, ℕ, ◌+◌, ◌*◌, ◌/◌, ◌%◌, ◌<◌, List, true, eqb, map, sym, ap, ◌∙◌, zero-add, arith}
+use Rattle.std.proofs.Common.{◌≡◌, ℕ, ◌+◌, ◌*◌, ◌/◌, ◌%◌, ◌<◌, List, [], map, sym, ap, ◌∙◌, arith}
+use Rattle.std.specs.Int.{bit_at}
 use Rattle.std.specs.List.{range_with_len}
 use Rattle.std.specs.Simd.Lanes.{number_l}
-use Rattle.std.proofs.lemmas.List.FromFn.{fill_by_all, get_or-map-range_with_len, length-map-range_with_len}
 use Rattle.std.proofs.lemmas.Simd.{map-map}
 use Rattle.planes.specs.Planes.{bit, byte, planes, state, states}
 use Rattle.planes.specs.declared.Planes.{Planes}
+use Rattle.planes.proofs.PlaneLaws.{map_same, states_from}
 use Rattle.byte_field.proofs.Wires.{Wire, bit_lt, plane_of, wires_agree}
 use Rattle.byte_field.proofs.Bits.{number_lt}
-use Rattle.byte_field.proofs.EveryByte.{every, every_tells}
-use Rattle.std.proofs.lemmas.Bool.{eqb-true}
-use Rattle.std.specs.Int.{bit_at}
-
-same_below : {A : Type 0} (f g : ℕ → A) (n : ℕ) → ((i : ℕ) → i < n → f i ≡ g i) → map f (range_with_len 0 n) ≡ map g (range_with_len 0 n)
-same_below f g n e =
-    fill_by_all g (map f (range_with_len 0 n)) n (f 0) (length-map-range_with_len f 0 n)
-    (λ i h. get_or-map-range_with_len f 0 n i i (f 0) h (zero-add i) ∙ e i h)
 
 -- the states of p are those of q with f on each byte, if the bits of p at each place are those of f on the byte that q has there
 pub each_byte : (p q : Planes) (f : ℕ → ℕ) → ((row place : ℕ) → row < 4 → place < 32 → number_l 2 (map (bit row place) (planes p)) ≡ f (number_l 2 (map (bit row place) (planes q)))) → states p ≡ map (map f) (states q)
 unfolding states state byte
 each_byte p q f e =
-    same_below (state p) (λ b. map f (state q b)) 8
-    (λ b h.
-    same_below (λ k. byte p b (k % 4) (k / 4)) (λ k. f (byte q b (k % 4) (k / 4))) 16
-    (λ k l. e (k % 4) (8 * (k / 4) + b) (omega arith) (omega arith))
-    ∙ sym (map-map f (λ k. byte q b (k % 4) (k / 4)) (range_with_len 0 16)))
+    states_from p (λ b row column. f (byte q b row column)) (λ b row column lb lr lc. e row (8 * column + b) lr (omega arith))
+    ∙ map_same (λ b. map (λ k. f (byte q b (k % 4) (k / 4))) (range_with_len 0 16)) (λ b. map f (state q b)) [] 8
+    (λ b h. sym (map-map f (λ k. byte q b (k % 4) (k / 4)) (range_with_len 0 16)))
     ∙ sym (map-map (map f) (state q) (range_with_len 0 8))
 
 -- the first eight planes of a list
@@ -38,11 +29,11 @@ from ps =
 pub circuit_on_planes : (q : Planes) (outs : List (List ℕ)) (f : ℕ → ℕ) (circuit : (ℕ → ℕ) → List ℕ) (run : (row place : ℕ) → row < 4 → place < 32 → List (Wire row place))
     → ((row place : ℕ) (here : row < 4) (within : place < 32) → map (λ w. w.plane) (run row place here within) ≡ planes (from outs))
     → ((row place : ℕ) (here : row < 4) (within : place < 32) → map (λ w. w.value) (run row place here within) ≡ circuit (bit_at (number_l 2 (map (bit row place) (planes q)))))
-    → every 256 (λ b. eqb (number_l 2 (circuit (bit_at b))) (f b)) ≡ true
+    → ((b : ℕ) → b < 256 → number_l 2 (circuit (bit_at b)) ≡ f b)
     → states (from outs) ≡ map (map f) (states q)
 circuit_on_planes q outs f circuit run on_plane on_bit computed =
     each_byte (from outs) q f (λ row place here within.
     let b = number_l 2 (map (bit row place) (planes q)) in
     ap (λ (ps : List (List ℕ)). number_l 2 (map (bit row place) ps)) (sym (on_plane row place here within))
     ∙ ap (number_l 2) (wires_agree row place (run row place here within) ∙ on_bit row place here within)
-    ∙ eqb-true (number_l 2 (circuit (bit_at b))) (f b) (every_tells 256 (λ x. eqb (number_l 2 (circuit (bit_at x))) (f x)) computed b (number_lt (bit row place) (bit_lt row place) (planes q))))
+    ∙ computed b (number_lt (bit row place) (bit_lt row place) (planes q)))

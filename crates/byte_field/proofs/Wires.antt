@@ -3,14 +3,15 @@
 -- A circuit is a definition over `Gates`, which says what the two operators are. On wires, each of which is a plane and one
 -- of its bits, a circuit is computed on both at once, with the proof that they agree.
 use Rattle.std.proofs.Common.{◌≡◌, ℕ, zero, suc, ◌/◌, ◌%◌, ◌^◌, ◌<◌, List, [], ◌∷◌, length, get_or, map, replicate, sym, refl, ap, ◌∙◌, ap₂, mod-lt, lit<, arith, bit_and, bit_xor}
-use Rattle.std.proofs.lemmas.Nat.{and_mod, and_shr, xor_mod, xor_shr}
+use Rattle.std.proofs.lemmas.Nat.{and_mod, and_shr}
 use Rattle.std.proofs.lemmas.Nat.Bits.{bit_at_ones, bit_at-zero}
 use Rattle.std.proofs.lemmas.Simd.{get_or-replicate, get_or-zip2, length-zip2}
 use Rattle.std.specs.Int.{bit_at}
-use Rattle.std.specs.Simd.Lanes.{Each1, number_l, zip2}
+use Rattle.std.specs.Simd.Lanes.{number_l, zip2}
 use Rattle.planes.specs.Planes.{bit}
+use Rattle.planes.proofs.BitLaws.{bit_at_sum}
+use Rattle.planes.proofs.PlaneLaws.{FourLanes}
 use Rattle.byte_field.proofs.Bits.{number_bit}
-use Rattle.units.specs.Sums.{◌⊕◌}
 
 -- the two operators, and what has a one at every place
 pub record Gates (A : Type 0) : Type 0 where
@@ -52,9 +53,6 @@ module _ (row place : ℕ) (here : row < 4) (within : place < 32) where
             ∙ ap₂ f u.is v.is;
       }
 
-  pub xor_each : (a b : ℕ) → bit_at (a ⊕ b) place ≡ bit_at a place ⊕ bit_at b place
-  xor_each a b = ap (λ (x : ℕ). x % 2) (xor_shr a b place) ∙ xor_mod (a / 2 ^ place) (b / 2 ^ place) 1
-
   pub and_each : (a b : ℕ) → bit_at (bit_and a b) place ≡ bit_and (bit_at a place) (bit_at b place)
   and_each a b = ap (λ (x : ℕ). x % 2) (and_shr a b place) ∙ and_mod (a / 2 ^ place) (b / 2 ^ place) 1
 
@@ -64,7 +62,7 @@ module _ (row place : ℕ) (here : row < 4) (within : place < 32) where
   abbrev pub on_wires : Gates (Wire row place)
   on_wires =
       record {
-        xor = gate bit_xor xor_each;
+        xor = gate bit_xor (λ a b. bit_at_sum a b place);
         and = gate bit_and and_each;
         ones = record { plane = replicate 4 0xFFFFFFFF; value = 1; lanes = refl; is = ones_is };
       }
@@ -74,9 +72,6 @@ module _ (row place : ℕ) (here : row < 4) (within : place < 32) where
 -- plane j, and zeros past the last
 abbrev pub plane_of : List (List ℕ) → ℕ → List ℕ
 plane_of ps j = get_or ps j (replicate 4 0)
-
-abbrev pub FourLanes : List (List ℕ) → Type 0
-FourLanes ps = Each1 (λ p. length p ≡ 4) ps
 
 pub bit_lt : (row place : ℕ) (p : List ℕ) → bit row place p < 2
 bit_lt row place p = mod-lt (get_or p row 0 / 2 ^ place) (lit< tt)

@@ -1,23 +1,12 @@
 -- Pairs of generators.
-use Rattle.std.proofs.Common.{◌≡◌, ℕ, ◌<◌, List, [], ◌∷◌, length, replicate, Ok, sym, refl, ap, ap₂, ◌∙◌, arith}
-use Rattle.std.specs.Int.Bits.{xor_self}
-use Rattle.std.proofs.lemmas.Nat.{xor_comm}
+use Rattle.std.proofs.Common.{◌≡◌, ℕ, ◌<◌, List, length, replicate, Ok, sym, ap, ◌∙◌, arith}
 use Rattle.std.proofs.lemmas.Bool.Decides.{nat_tests}
 use Rattle.units.specs.Sums.{◌⊕◌, sums}
+use Rattle.units.proofs.SumLaws.{sums_comm, sums_self}
 use Rattle.field.specs.declared.blocks.Block.{Block}
 use Rattle.field.proofs.BlockLaws.{polynomial-sums}
 use Rattle.generator.specs.Generators.{Meaning, Sound, answered}
 use Rattle.generator.specs.Pairs.{PairStands, both}
-
-sums_comm : (xs ys : List ℕ) → sums xs ys ≡ sums ys xs
-sums_comm [] [] = refl
-sums_comm [] (y ∷ ys) = refl
-sums_comm (x ∷ xs) [] = refl
-sums_comm (x ∷ xs) (y ∷ ys) = ap₂ (λ (b : ℕ) (bs : List ℕ). b ∷ bs) (xor_comm x y) (sums_comm xs ys)
-
-sums_self : (xs : List ℕ) → sums xs xs ≡ replicate (length xs) 0
-sums_self [] = refl
-sums_self (x ∷ xs) = ap₂ (λ (b : ℕ) (bs : List ℕ). b ∷ bs) (xor_self x) (sums_self xs)
 
 pub pair_stands : PairStands
 pair_stands =

@@ -7,6 +7,7 @@ use Rattle.std.proofs.lemmas.Nat.{shr-shr}
 use Rattle.std.proofs.lemmas.Nat.Bits.{bit_at-zero, bit_at_cat_high, bit_at_cat_low}
 use Rattle.std.proofs.lemmas.Simd.{Each1-chunk, Each1-from_get_or, get_or-chunk, get_or_narrower, get_or_wider}
 use Rattle.units.specs.Strings.{Octets}
+use Rattle.units.proofs.StringLaws.{Octets-append}
 use Rattle.planes.specs.Planes.{bit}
 use Rattle.planes.proofs.BitLaws.{bit_at-mod, same_below}
 
@@ -25,11 +26,6 @@ pub picked_at : (xs places : List ℕ) (m : ℕ) → length xs ≡ 16 → m < le
 picked_at xs places m l h p = get_or-map (λ k. get_or (xs ++ xs) k 0) places m 0 0 h ∙ get_or_append_left xs xs 0 (get_or places m 0) (omega arith)
 
 -- ---- octets
-
-Octets-append : (xs ys : List ℕ) → Octets xs → Octets ys → Octets (xs ++ ys)
-Octets-append [] ys o p k = p k
-Octets-append (x ∷ xs) ys o p zero = o 0
-Octets-append (x ∷ xs) ys o p (suc k) = Octets-append xs ys (λ i. o (suc i)) p k
 
 pub Octets-picked : (xs places : List ℕ) → Octets xs → Octets (picked xs places)
 Octets-picked xs [] o k = lit< tt

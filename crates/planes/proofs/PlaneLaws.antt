@@ -1,13 +1,15 @@
 -- The bytes and the states that planes hold.
 use Rattle.std.proofs.Common.{◌≡◌, ℕ, ◌+◌, ◌*◌, ◌/◌, ◌%◌, ◌^◌, ◌<◌, List, [], ◌∷◌, map, length, get_or, sym, refl, ap, ◌∙◌, ap₂, mod-lt, arith, lit<, bit_xor}
+use Rattle.std.specs.Int.{bit_at}
 use Rattle.std.specs.List.{range_with_len}
 use Rattle.std.specs.Simd.Lanes.{Each1, number_l, zip2}
 use Rattle.std.proofs.lemmas.List.FromFn.{fill_by_all, get_or-map-range_with_len, length-map-range_with_len}
-use Rattle.std.proofs.lemmas.Nat.{xor_block, xor_mod, xor_shr}
-use Rattle.std.proofs.lemmas.Simd.{get_or-zip2, zip2-map}
+use Rattle.std.proofs.lemmas.Nat.{xor_block}
+use Rattle.std.proofs.lemmas.Simd.{zip2-map}
 use Rattle.units.specs.Sums.{◌⊕◌, sums}
 use Rattle.planes.specs.declared.Planes.{Planes}
 use Rattle.planes.specs.Planes.{bit, byte, planes, state, states}
+use Rattle.planes.proofs.BitLaws.{bit_at_sum, lane}
 
 -- ---- lists from a function of the index
 
@@ -35,11 +37,13 @@ states_from q f h =
 
 -- ---- sums
 
+-- each plane has four lanes
+abbrev pub FourLanes : List (List ℕ) → Type 0
+FourLanes ps = Each1 (λ p. length p ≡ 4) ps
+
 bit_xor_lanes : (row place : ℕ) (xs ys : List ℕ) → row < 4 → length xs ≡ 4 → length ys ≡ 4 → bit row place (zip2 bit_xor xs ys) ≡ bit row place xs ⊕ bit row place ys
 bit_xor_lanes row place xs ys h l m =
-    ap (λ (n : ℕ). n / 2 ^ place % 2) (get_or-zip2 bit_xor xs ys row 0 0 0 (omega arith) (omega arith))
-    ∙ ap (λ (n : ℕ). n % 2) (xor_shr (get_or xs row 0) (get_or ys row 0) place)
-    ∙ xor_mod (get_or xs row 0 / 2 ^ place) (get_or ys row 0 / 2 ^ place) 1
+    ap (λ (n : ℕ). bit_at n place) (lane bit_xor xs ys row h l m) ∙ bit_at_sum (get_or xs row 0) (get_or ys row 0) place
 
 -- a number in front, as its lowest bit
 bit_front : (x y m n : ℕ) → x < 2 → y < 2 → (x ⊕ y) + 2 * (m ⊕ n) ≡ (x + 2 * m) ⊕ (y + 2 * n)
@@ -47,7 +51,7 @@ bit_front x y m n hx hy =
     let e : (p q : ℕ) → p + 2 * q ≡ q * 2 ^ 1 + p = λ p q. omega arith in
     e (x ⊕ y) (m ⊕ n) ∙ sym (xor_block 1 m n x y hx hy) ∙ sym (ap₂ bit_xor (e x m) (e y n))
 
-sum_of_planes : (row place : ℕ) (ps qs : List (List ℕ)) → row < 4 → length ps ≡ length qs → Each1 (λ p. length p ≡ 4) ps → Each1 (λ p. length p ≡ 4) qs
+sum_of_planes : (row place : ℕ) (ps qs : List (List ℕ)) → row < 4 → length ps ≡ length qs → FourLanes ps → FourLanes qs
     → number_l 2 (map (bit row place) (zip2 (zip2 bit_xor) ps qs)) ≡ number_l 2 (map (bit row place) ps) ⊕ number_l 2 (map (bit row place) qs)
 sum_of_planes row place [] [] h e f g = refl
 sum_of_planes row place [] (q ∷ qs) h e f g = absurd (omega arith)
@@ -58,10 +62,6 @@ sum_of_planes row place (p ∷ ps) (q ∷ qs) h e f g =
 
 pub sums_of_maps : (f g : ℕ → ℕ) (ks : List ℕ) → sums (map f ks) (map g ks) ≡ map (λ k. f k ⊕ g k) ks
 sums_of_maps f g ks = sums_is (map f ks) (map g ks) ∙ zip2-map bit_xor f g ks
-
--- each plane has four lanes
-abbrev pub FourLanes : Planes → Type 0
-FourLanes q = Each1 (λ p. length p ≡ 4) (planes q)
 
 -- planes added one by one
 abbrev pub added : Planes → Planes → Planes
@@ -76,7 +76,7 @@ added p q = record {
   p7 = zip2 bit_xor p.p7 q.p7;
 }
 
-pub states_added : (p q : Planes) → FourLanes p → FourLanes q → states (added p q) ≡ zip2 sums (states p) (states q)
+pub states_added : (p q : Planes) → FourLanes (planes p) → FourLanes (planes q) → states (added p q) ≡ zip2 sums (states p) (states q)
 unfolding states state byte
 states_added p q f g =
     let at : (q : Planes) (b k : ℕ) → ℕ = λ q b k. number (k % 4) (8 * (k / 4) + b) q in

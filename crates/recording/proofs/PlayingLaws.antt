@@ -5,7 +5,7 @@ use Rattle.std.specs.List.{flat_map, AllByRecursion, Contains}
 use Rattle.std.proofs.lemmas.List.Elements.{Contains-append_right}
 use Rattle.std.proofs.lemmas.Bool.Decides.{nat_tests}
 use Rattle.units.specs.Strings.{Octets, same, two}
-use Rattle.units.proofs.StringLaws.{Octets-append_rest, same_tells}
+use Rattle.units.proofs.StringLaws.{Octets-append_front, Octets-append_rest, same_tells}
 use Rattle.generator.specs.Generators.{Sound}
 use Rattle.recording.specs.Playing.{PlaybackStands, blocks_under, played, readable}
 use Rattle.recording.specs.Reading.{ahead, placed, records, up_to}
@@ -24,11 +24,6 @@ record SoundBlocks (blocks : List (List ℕ)) : Type 0 where
 
 no_blocks : SoundBlocks []
 no_blocks = record { few = omega arith; sixteen = λ i h. absurd (omega arith); octets = λ i k. omega arith }
-
-Octets-append_front : (xs ys : List ℕ) → Octets (xs ++ ys) → Octets xs
-Octets-append_front [] ys o k = omega arith
-Octets-append_front (x ∷ xs) ys o zero = o 0
-Octets-append_front (x ∷ xs) ys o (suc k) = Octets-append_front xs ys (λ i. o (suc i)) k
 
 each_sixteen : (blocks : List (List ℕ)) → AllByRecursion (λ block. length block ≡ 16) blocks → (i : ℕ) → i < length blocks → length (get_or blocks i []) ≡ 16
 each_sixteen [] a i h = absurd (omega arith)

@@ -1,5 +1,5 @@
 -- Parts of byte strings, byte strings that are equal, and numbers in them.
-use Rattle.std.proofs.Common.{Decides, rules, ◌≡◌, ◌↔◌, ℕ, zero, suc, ◌+◌, ◌*◌, ◌/◌, ◌%◌, ◌<◌, ◌≤◌, List, [], ◌∷◌, ◌++◌, length, get_or, take, drop, sym, refl, ap, ◌∙◌, arith, get_or-drop, drop-cons, get_or-append-add}
+use Rattle.std.proofs.Common.{Decides, rules, ◌≡◌, ◌↔◌, ℕ, zero, suc, ◌+◌, ◌*◌, ◌/◌, ◌%◌, ◌<◌, ◌≤◌, List, [], ◌∷◌, ◌++◌, map, length, get_or, take, drop, sym, refl, ap, ◌∙◌, arith, lit<, get_or-drop, drop-cons, get_or-append-add}
 use Rattle.std.proofs.lemmas.Nat.{le_or_l, le_or_r}
 use Rattle.std.specs.Int.Bits.{bit_or}
 use Rattle.std.specs.List.{fold}
@@ -12,6 +12,16 @@ Octets-append_rest xs front rest o e k =
     let below = o (length front + k) in
     omega arith
 
+pub Octets-append_front : (xs ys : List ℕ) → Octets (xs ++ ys) → Octets xs
+Octets-append_front [] ys o k = omega arith
+Octets-append_front (x ∷ xs) ys o zero = o 0
+Octets-append_front (x ∷ xs) ys o (suc k) = Octets-append_front xs ys (λ i. o (suc i)) k
+
+pub Octets-append : (xs ys : List ℕ) → Octets xs → Octets ys → Octets (xs ++ ys)
+Octets-append [] ys o p k = p k
+Octets-append (x ∷ xs) ys o p zero = o 0
+Octets-append (x ∷ xs) ys o p (suc k) = Octets-append xs ys (λ i. o (suc i)) p k
+
 pub Octets-drop : (xs : List ℕ) (at : ℕ) → Octets xs → Octets (drop at xs)
 Octets-drop xs at o k = rw get_or-drop (o (at + k))
 
@@ -20,6 +30,11 @@ Octets-take xs zero o k = omega arith
 Octets-take [] (suc n) o k = omega arith
 Octets-take (x ∷ xs) (suc n) o zero = o 0
 Octets-take (x ∷ xs) (suc n) o (suc k) = Octets-take xs n (λ i. o (suc i)) k
+
+pub Octets-map : (f : ℕ → ℕ) (xs : List ℕ) → ((x : ℕ) → f x < 256) → Octets (map f xs)
+Octets-map f [] h k = lit< tt
+Octets-map f (x ∷ xs) h zero = h x
+Octets-map f (x ∷ xs) h (suc k) = Octets-map f xs h k
 
 -- the test of byte strings says whether they are equal
 pub same_tells : (xs ys : List ℕ) → Decides (same xs ys) (xs ≡ ys)

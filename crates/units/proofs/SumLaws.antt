@@ -1,5 +1,5 @@
 -- Bitwise sums of numbers and of lists.
-use Rattle.std.proofs.Common.{◌≡◌, ℕ, zero, suc, ◌*◌, ◌%◌, ◌^◌, ◌≤◌, List, [], ◌∷◌, length, take, drop, sym, refl, ap, ◌∙◌, ap₂, le_of_suc-le-suc, not-suc-le-zero, add-zero, mod-lt, one-mul, zero-mul, arith, lit<, pow_pos, bit_xor}
+use Rattle.std.proofs.Common.{◌≡◌, ℕ, zero, suc, ◌*◌, ◌%◌, ◌^◌, ◌≤◌, List, [], ◌∷◌, length, replicate, take, drop, sym, refl, ap, ◌∙◌, ap₂, le_of_suc-le-suc, not-suc-le-zero, add-zero, mod-lt, one-mul, zero-mul, arith, lit<, pow_pos, bit_xor}
 use Rattle.std.specs.Int.Bits.{xor_assoc, xor_self, xor_zero_r}
 use Rattle.std.proofs.lemmas.Nat.{xor_block, xor_comm, xor_lt, xor_mod}
 use Rattle.units.specs.Strings.{Octets}
@@ -58,6 +58,16 @@ xor_low m n a =
     m
 
 -- ---- lists
+
+pub sums_comm : (xs ys : List ℕ) → sums xs ys ≡ sums ys xs
+sums_comm [] [] = refl
+sums_comm [] (y ∷ ys) = refl
+sums_comm (x ∷ xs) [] = refl
+sums_comm (x ∷ xs) (y ∷ ys) = ap₂ (λ (b : ℕ) (bs : List ℕ). b ∷ bs) (xor_comm x y) (sums_comm xs ys)
+
+pub sums_self : (xs : List ℕ) → sums xs xs ≡ replicate (length xs) 0
+sums_self [] = refl
+sums_self (x ∷ xs) = ap₂ (λ (b : ℕ) (bs : List ℕ). b ∷ bs) (xor_self x) (sums_self xs)
 
 pub length-sums : (xs ys : List ℕ) → length xs ≤ length ys → length (sums xs ys) ≡ length xs
 length-sums [] ys h = refl
