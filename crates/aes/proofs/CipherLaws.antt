@@ -1,10 +1,10 @@
 -- The cipher on planes, round by round.
-use Rattle.std.proofs.Common.{◌≡◌, ℕ, suc, ◌+◌, ◌-◌, ◌<◌, ◌≤◌, List, [], ◌∷◌, ◌++◌, map, length, get_or, take, drop, drop-drop, length-drop, take-add, take-append-drop, length-append, append_assoc, set, sym, refl, ap, ◌∙◌, ap₂, arith}
+use Rattle.std.proofs.Common.{◌≡◌, ℕ, suc, ◌+◌, ◌-◌, ◌<◌, ◌≤◌, List, [], ◌++◌, map, length, get_or, take, drop, drop-drop, length-drop, take-add, take-append-drop, length-append, append_assoc, set, sym, ap, ◌∙◌, ap₂, arith}
 use Rattle.std.specs.List.{range_with_len}
 use borrow.Rule.Slice.PartMut.{put_mid}
-use Rattle.std.proofs.lemmas.List.{drop_at, take_at, length-map, length-take-le, get_or-map, map-append, take_all, take_more_set}
-use Rattle.std.proofs.lemmas.List.FromFn.{map-range_with_len_more}
+use Rattle.std.proofs.lemmas.List.{drop_at, take_at, length-map, length-take-le, get_or-map, map-append, map-set}
 use Rattle.std.proofs.lemmas.Simd.{map-map}
+use Rattle.units.proofs.FillLaws.{filled, filled_all, filled_more}
 use Rattle.planes.specs.declared.Planes.{Planes}
 use Rattle.planes.specs.Planes.{states}
 use Rattle.byte_field.specs.Sbox.{sbox}
@@ -15,34 +15,20 @@ use Rattle.aes.specs.declared.round_keys.RoundKey.{RoundKey}
 
 -- ---- the round keys
 
--- the first n round keys of words
-unfoldable pub first_keys : List (List ℕ) → ℕ → List (List ℕ)
-first_keys ws n = map (round_key_of ws) (range_with_len 0 n)
-
-pub no_keys : (ws : List (List ℕ)) → [] ≡ first_keys ws 0
-unfolding first_keys
-no_keys ws = refl
-
 pub key_more :
     (ws : List (List ℕ)) (ks : List RoundKey) (r : ℕ) (k : RoundKey) → length ks ≡ 15 → r < 15
-    → map key_of (take r ks) ≡ first_keys ws r
+    → take r (map key_of ks) ≡ filled (round_key_of ws) r
     → key_of k ≡ round_key_of ws r
-    → map key_of (take (r + 1) (set ks r k)) ≡ first_keys ws (r + 1)
-unfolding first_keys
-key_more ws ks r k l h e f =
-    ap (map key_of) (take_more_set ks r k (omega arith))
-    ∙ map-append key_of (take r ks) (k ∷ [])
-    ∙ ap₂ (λ (vs : List (List ℕ)) (v : List ℕ). vs ++ v ∷ []) e f
-    ∙ sym (map-range_with_len_more (round_key_of ws) 0 r r (omega arith))
+    → take (r + 1) (map key_of (set ks r k)) ≡ filled (round_key_of ws) (r + 1)
+key_more ws ks r k l h e f = rw map-set (filled_more (round_key_of ws) (map key_of ks) r (key_of k) (omega (arith, length-map ks key_of)) e f)
 
 pub all_keys :
     (key : List ℕ) (ws : List (List ℕ)) (ks : List RoundKey) (r : ℕ) → length ks ≡ 15 → r ≡ 15 → ws ≡ key_expansion key
-    → map key_of (take r ks) ≡ first_keys ws r → map key_of ks ≡ round_keys_of key
-unfolding first_keys round_keys_of
+    → take r (map key_of ks) ≡ filled (round_key_of ws) r → map key_of ks ≡ round_keys_of key
+unfolding round_keys_of
 all_keys key ws ks r l h w e =
-    ap (map key_of) (sym (take_all 15 ks (omega arith)) ∙ ap (λ (n : ℕ). take n ks) (sym h))
-    ∙ e
-    ∙ ap₂ (λ (us : List (List ℕ)) (n : ℕ). map (round_key_of us) (range_with_len 0 n)) w h
+    filled_all (round_key_of ws) (map key_of ks) r 15 (length-map ks key_of ∙ l) h e
+    ∙ ap (λ (us : List (List ℕ)). map (round_key_of us) (range_with_len 0 15)) w
 
 pub key_at : (key : List ℕ) (rks : List RoundKey) (r : ℕ) (d : RoundKey) → map key_of rks ≡ round_keys_of key → r < length rks → key_of (get_or rks r d) ≡ round_key (round_keys_of key) r
 key_at key rks r d e h = sym (get_or-map key_of rks r d [] h) ∙ ap (λ (ks : List (List ℕ)). get_or ks r []) e

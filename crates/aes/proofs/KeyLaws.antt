@@ -1,11 +1,10 @@
 -- Round keys, and the words that they are made of.
 use Rattle.std.proofs.Common.{◌≡◌, ℕ, suc, ◌+◌, ◌-◌, ◌*◌, ◌/◌, ◌%◌, ◌<◌, ◌≤◌, ◌==◌, cond, List, [], ◌∷◌, ◌++◌, map, length, get_or, take, drop, replicate, set, length-drop, sym, refl, ap, ◌∙◌, ap₂, arith}
-use Rattle.std.specs.List.{range_with_len}
 use Rattle.std.specs.Simd.Lanes.{zip2}
 use Rattle.std.proofs.lemmas.Simd.{zip2_splat}
-use Rattle.std.proofs.lemmas.List.FromFn.{map-range_with_len_more}
 use Rattle.std.proofs.lemmas.List.{take_all, take_more_set, get_or-take, get_or-drop, length-take-le}
 use Rattle.units.specs.Sums.{sums}
+use Rattle.units.proofs.FillLaws.{filled, filled_more, filled_none}
 use Rattle.planes.specs.declared.Planes.{Planes}
 use Rattle.planes.specs.Planes.{state, states}
 use Rattle.planes.proofs.BitLaws.{same_below}
@@ -59,11 +58,11 @@ addend_eighth i w sub sum l from below z e f =
 
 -- the first n words of a key
 unfoldable pub first_words : List ℕ → ℕ → List (List ℕ)
-first_words key n = map (λ i. take 4 (drop (4 * i) key)) (range_with_len 0 n)
+first_words key = filled (λ i. take 4 (drop (4 * i) key))
 
 pub no_words : (key : List ℕ) → [] ≡ first_words key 0
 unfolding first_words
-no_words key = refl
+no_words key = filled_none (λ i. take 4 (drop (4 * i) key))
 
 word_at : (key : List ℕ) (at : ℕ) → at + 4 ≤ length key → get_or key at 0 ∷ get_or key (at + 1) 0 ∷ get_or key (at + 2) 0 ∷ get_or key (at + 3) 0 ∷ [] ≡ take 4 (drop at key)
 word_at key at h =
@@ -77,12 +76,10 @@ pub word_more :
     → take (i + 1) (set ws i (get_or key (4 * i) 0 ∷ get_or key (4 * i + 1) 0 ∷ get_or key (4 * i + 2) 0 ∷ get_or key (4 * i + 3) 0 ∷ [])) ≡ first_words key (i + 1)
 unfolding first_words
 word_more key ws i l m h e =
-    take_more_set ws i _ (omega arith)
-    ∙ ap₂ (λ (vs : List (List ℕ)) (w : List ℕ). vs ++ w ∷ []) e (word_at key (4 * i) (omega arith))
-    ∙ sym (map-range_with_len_more (λ i. take 4 (drop (4 * i) key)) 0 i i (omega arith))
+    filled_more (λ i. take 4 (drop (4 * i) key)) ws i _ (omega arith) e (word_at key (4 * i) (omega arith))
 
 pub not_expanded : (key : List ℕ) (ws : List (List ℕ)) (i : ℕ) → i ≡ 8 → take i ws ≡ first_words key i → take 8 ws ≡ expanded 0 (words key)
-unfolding first_words expanded words
+unfolding first_words filled expanded words
 not_expanded key ws i h e = rw h at e
 
 pub expanded_more :

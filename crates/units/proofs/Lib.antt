@@ -1,3 +1,4 @@
 pub mod SumLaws
 pub mod StringLaws
+pub mod FillLaws
 pub mod SpareLaws
