@@ -56,7 +56,8 @@ sound_up_to n (suc m) xs o = go (sound_up_to n m) (first xs) refl
     behind (keystream nonce blocks) rest es there s = SoundBlocks-cond (same nonce n) blocks (blocks_under n es) (sound_keystream nonce blocks rest xs o there) s
     behind (remark text) rest es there s = s
 
-    go : ((ys : List ℕ) → Octets ys → SoundBlocks (blocks_under n (up_to m ys))) → (r : Found) → first xs ≡ r → SoundBlocks (blocks_under n (elim r [ Some p ↦ p.0 ∷ up_to m p.1 | None ↦ [] ]))
+    go : ((ys : List ℕ) → Octets ys → SoundBlocks (blocks_under n (up_to m ys))) → (r : Found) → first xs ≡ r
+        → SoundBlocks (blocks_under n (elim r [ Some p ↦ p.0 ∷ up_to m p.1 | None ↦ [] ]))
     go again None e = no_blocks
     go again (Some p) e =
         let there = first_there xs p o e in
@@ -106,21 +107,24 @@ same_pointwise (x ∷ xs) (y ∷ ys) = ap (λ (b : Bool). nat_eq x y && b) (same
 pub same_nonce : (xs ys : List ℕ) → pointwise nat_eq xs ys ≡ true → xs ≡ ys
 same_nonce xs ys h = (same_tells xs ys).0 (sym (same_pointwise xs ys) ∙ h)
 
--- the next record is a keystream record with the nonce, or one to go past
-pub under_found : (n : List ℕ) (at : ℕ) (nonce : List ℕ) (blocks : List (List ℕ)) (all rest : List (ℕ × Entry)) → all ≡ (at, keystream nonce blocks) ∷ rest → pointwise nat_eq nonce n ≡ true → blocks_under n (entries all) ≡ blocks
-under_found n at nonce blocks all rest e h = ap (λ (l : List (ℕ × Entry)). blocks_under n (entries l)) e ∙ ap (λ (b : Bool). cond b blocks (blocks_under n (entries rest))) (sym (same_pointwise nonce n) ∙ h)
+-- the next record is a keystream record, with the nonce or with another, or a remark
+pub under_keystream :
+    (n : List ℕ) (at : ℕ) (nonce : List ℕ) (blocks : List (List ℕ)) (all rest : List (ℕ × Entry)) → all ≡ (at, keystream nonce blocks) ∷ rest
+    → blocks_under n (entries all) ≡ cond (pointwise nat_eq nonce n) blocks (blocks_under n (entries rest))
+under_keystream n at nonce blocks all rest e =
+    ap (λ (l : List (ℕ × Entry)). blocks_under n (entries l)) e
+    ∙ ap (λ (b : Bool). cond b blocks (blocks_under n (entries rest))) (sym (same_pointwise nonce n))
 
-pub under_other : (n : List ℕ) (at : ℕ) (nonce : List ℕ) (blocks : List (List ℕ)) (all rest : List (ℕ × Entry)) → all ≡ (at, keystream nonce blocks) ∷ rest → pointwise nat_eq nonce n ≡ false → blocks_under n (entries all) ≡ blocks_under n (entries rest)
-under_other n at nonce blocks all rest e h = ap (λ (l : List (ℕ × Entry)). blocks_under n (entries l)) e ∙ ap (λ (b : Bool). cond b blocks (blocks_under n (entries rest))) (sym (same_pointwise nonce n) ∙ h)
-
-pub under_remark : (n : List ℕ) (at : ℕ) (text : List ℕ) (all rest : List (ℕ × Entry)) → all ≡ (at, remark text) ∷ rest → blocks_under n (entries all) ≡ blocks_under n (entries rest)
+pub under_remark :
+    (n : List ℕ) (at : ℕ) (text : List ℕ) (all rest : List (ℕ × Entry)) → all ≡ (at, remark text) ∷ rest
+    → blocks_under n (entries all) ≡ blocks_under n (entries rest)
 under_remark n at text all rest e = ap (λ (l : List (ℕ × Entry)). blocks_under n (entries l)) e
 
 pub under_end : (n : List ℕ) (all : List (ℕ × Entry)) → all ≡ [] → blocks_under n (entries all) ≡ []
 under_end n all e = ap (λ (l : List (ℕ × Entry)). blocks_under n (entries l)) e
 
 -- what the search of a recording rests on
-pub ruleset searching = (entries_start, under_found, under_other, under_remark, under_end)
+pub ruleset searching = (entries_start, under_keystream, under_remark, under_end)
 
 -- ---- what is played
 
