@@ -32,7 +32,7 @@ doubled_states q four =
 
 -- ---- the S-box
 
--- the circuit as the code has it
+-- the circuit as the code has it, where a comment says what each part is
 unfoldable pub sbox_circuit : {A : Type 0} → Gates A → (ℕ → A) → List A
 sbox_circuit g x =
     let xor = g.xor in
@@ -46,7 +46,6 @@ sbox_circuit g x =
     let x5 = x 2 in
     let x6 = x 1 in
     let x7 = x 0 in
-    -- The byte as such a pair, and the sums of its bits that the products below take.
     let y14 = xor x3 x5 in
     let y13 = xor x0 x6 in
     let y9 = xor x0 x3 in
@@ -70,7 +69,6 @@ sbox_circuit g x =
     let y16 = xor t0 y11 in
     let y21 = xor y13 y16 in
     let y18 = xor x0 y16 in
-    -- The element of the field of 16 that has to be inverted: t21 to t24.
     let t2 = and y12 y15 in
     let t3 = and y3 y6 in
     let t4 = xor t3 t2 in
@@ -94,7 +92,6 @@ sbox_circuit g x =
     let t22 = xor t18 y19 in
     let t23 = xor t19 y21 in
     let t24 = xor t20 y18 in
-    -- Its inverse, t29, t33, t37 and t40, and the sums of them that the products below take.
     let t25 = xor t21 t22 in
     let t26 = and t21 t23 in
     let t27 = xor t24 t26 in
@@ -116,7 +113,6 @@ sbox_circuit g x =
     let t43 = xor t29 t40 in
     let t44 = xor t33 t37 in
     let t45 = xor t42 t41 in
-    -- The inverse times each of the pair.
     let z0 = and t44 y15 in
     let z1 = and t37 y6 in
     let z2 = and t33 x7 in
@@ -135,7 +131,6 @@ sbox_circuit g x =
     let z15 = and t42 y9 in
     let z16 = and t45 y14 in
     let z17 = and t41 y8 in
-    -- The inverse of the byte from its pair, and the affine map, in the same sums. The map's constant turns four bits over.
     let t46 = xor z15 z16 in
     let t47 = xor z10 z11 in
     let t48 = xor z5 z13 in
