@@ -50,5 +50,6 @@ module _ (a : Aes256) where
   encrypted_octets block =
       let s = map sbox (rounds (round_keys_of a.key) 13 block) in
       Octets-sums (shift_rows s) (round_key (round_keys_of a.key) 14)
-      (Octets-map (λ k. get_or s (k % 4 + 4 * ((k / 4 + k % 4) % 4)) 0) (range_with_len 0 16) (λ k. Octets-map sbox (rounds (round_keys_of a.key) 13 block) sbox_lt (k % 4 + 4 * ((k / 4 + k % 4) % 4))))
+      (Octets-map (λ k. get_or s (k % 4 + 4 * ((k / 4 + k % 4) % 4)) 0) (range_with_len 0 16)
+      (λ k. Octets-map sbox (rounds (round_keys_of a.key) 13 block) sbox_lt (k % 4 + 4 * ((k / 4 + k % 4) % 4))))
       (last_key Octets (λ k. state_octets k.planes))

@@ -30,13 +30,19 @@ all_keys key ws ks r l h w e =
     filled_all (round_key_of ws) (map key_of ks) r 15 (length-map ks key_of ∙ l) h e
     ∙ ap (λ (us : List (List ℕ)). map (round_key_of us) (range_with_len 0 15)) w
 
-pub key_at : (key : List ℕ) (rks : List RoundKey) (r : ℕ) (d : RoundKey) → map key_of rks ≡ round_keys_of key → r < length rks → key_of (get_or rks r d) ≡ round_key (round_keys_of key) r
+pub key_at :
+    (key : List ℕ) (rks : List RoundKey) (r : ℕ) (d : RoundKey) → map key_of rks ≡ round_keys_of key → r < length rks
+    → key_of (get_or rks r d) ≡ round_key (round_keys_of key) r
 key_at key rks r d e h = sym (get_or-map key_of rks r d [] h) ∙ ap (λ (ks : List (List ℕ)). get_or ks r []) e
 
 -- ---- the rounds
 
 module _ (key : List ℕ) (blocks : List (List ℕ)) where
-  pub first_round : (k : List ℕ) (from q : Planes) → k ≡ round_key (round_keys_of key) 0 → states from ≡ blocks → states q ≡ map (add_round_key k) (states from) → states q ≡ map (rounds (round_keys_of key) 0) blocks
+  pub first_round :
+      (k : List ℕ) (from q : Planes) → k ≡ round_key (round_keys_of key) 0
+      → states from ≡ blocks
+      → states q ≡ map (add_round_key k) (states from)
+      → states q ≡ map (rounds (round_keys_of key) 0) blocks
   unfolding rounds
   first_round k from q e f g = g ∙ ap₂ (λ (k : List ℕ) (ss : List (List ℕ)). map (add_round_key k) ss) e f
 
@@ -51,7 +57,9 @@ module _ (key : List ℕ) (blocks : List (List ℕ)) where
   unfolding rounds
   next_round r k q b s m q' h e f eb es em eq =
       eq
-      ∙ ap (map (add_round_key k)) (em ∙ ap (map mix_columns) (es ∙ ap (map shift_rows) (eb ∙ ap (map (map sbox)) f ∙ map-map (map sbox) (rounds (round_keys_of key) (r - 1)) blocks)
+      ∙ ap (map (add_round_key k)) (em
+      ∙ ap (map mix_columns) (es
+      ∙ ap (map shift_rows) (eb ∙ ap (map (map sbox)) f ∙ map-map (map sbox) (rounds (round_keys_of key) (r - 1)) blocks)
       ∙ map-map shift_rows (λ x. map sbox (rounds (round_keys_of key) (r - 1) x)) blocks)
       ∙ map-map mix_columns (λ x. shift_rows (map sbox (rounds (round_keys_of key) (r - 1) x))) blocks)
       ∙ map-map (add_round_key k) (λ x. mix_columns (shift_rows (map sbox (rounds (round_keys_of key) (r - 1) x)))) blocks
@@ -70,7 +78,10 @@ module _ (key : List ℕ) (blocks : List (List ℕ)) where
   last_round r k q b s last out h e f eb es el eo =
       eo
       ∙ el
-      ∙ ap (map (add_round_key k)) (es ∙ ap (map shift_rows) (eb ∙ ap (map (map sbox)) (f ∙ ap (λ (n : ℕ). map (rounds (round_keys_of key) (n - 1)) blocks) h) ∙ map-map (map sbox) (rounds (round_keys_of key) 13) blocks)
+      ∙ ap (map (add_round_key k)) (es
+      ∙ ap (map shift_rows) (eb
+      ∙ ap (map (map sbox)) (f ∙ ap (λ (n : ℕ). map (rounds (round_keys_of key) (n - 1)) blocks) h)
+      ∙ map-map (map sbox) (rounds (round_keys_of key) 13) blocks)
       ∙ map-map shift_rows (λ x. map sbox (rounds (round_keys_of key) 13 x)) blocks)
       ∙ map-map (add_round_key k) (λ x. shift_rows (map sbox (rounds (round_keys_of key) 13 x))) blocks
       ∙ ap (λ (k : List ℕ). map (λ x. add_round_key k (shift_rows (map sbox (rounds (round_keys_of key) 13 x)))) blocks) e

@@ -27,7 +27,7 @@ added_to_each a b sum k e f = e ∙ ap (zip2 sums (states a)) f ∙ zip2_splat s
 
 -- ---- words
 
-pub four_items : (w : List ℕ) → length w ≡ 4 → w ≡ get_or w 0 0 ∷ get_or w 1 0 ∷ get_or w 2 0 ∷ get_or w 3 0 ∷ []
+four_items : (w : List ℕ) → length w ≡ 4 → w ≡ get_or w 0 0 ∷ get_or w 1 0 ∷ get_or w 2 0 ∷ get_or w 3 0 ∷ []
 four_items [] l = absurd (omega arith)
 four_items (a ∷ []) l = absurd (omega arith)
 four_items (a ∷ b ∷ []) l = absurd (omega arith)
@@ -64,11 +64,16 @@ pub no_words : (key : List ℕ) → [] ≡ first_words key 0
 unfolding first_words
 no_words key = filled_none (λ i. take 4 (drop (4 * i) key))
 
-word_at : (key : List ℕ) (at : ℕ) → at + 4 ≤ length key → get_or key at 0 ∷ get_or key (at + 1) 0 ∷ get_or key (at + 2) 0 ∷ get_or key (at + 3) 0 ∷ [] ≡ take 4 (drop at key)
+word_at :
+    (key : List ℕ) (at : ℕ) → at + 4 ≤ length key
+    → get_or key at 0 ∷ get_or key (at + 1) 0 ∷ get_or key (at + 2) 0 ∷ get_or key (at + 3) 0 ∷ [] ≡ take 4 (drop at key)
 word_at key at h =
-    let there : (k : ℕ) → k < 4 → get_or (take 4 (drop at key)) k 0 ≡ get_or key (at + k) 0 = λ k l. get_or-take 4 (drop at key) k 0 l ∙ get_or-drop at key k 0 in
+    let there : (k : ℕ) → k < 4 → get_or (take 4 (drop at key)) k 0 ≡ get_or key (at + k) 0 =
+    λ k l. get_or-take 4 (drop at key) k 0 l ∙ get_or-drop at key k 0
+    in
     sym (four_items (take 4 (drop at key)) (length-take-le 4 (drop at key) (omega (arith, length-drop at key)))
-    ∙ four_same (there 0 (omega arith) ∙ ap (λ (m : ℕ). get_or key m 0) (let e : at + 0 ≡ at = omega arith in e)) (there 1 (omega arith)) (there 2 (omega arith)) (there 3 (omega arith)))
+    ∙ four_same (there 0 (omega arith) ∙ ap (λ (m : ℕ). get_or key m 0) (let e : at + 0 ≡ at = omega arith in e))
+    (there 1 (omega arith)) (there 2 (omega arith)) (there 3 (omega arith)))
 
 pub word_more :
     (key : List ℕ) (ws : List (List ℕ)) (i : ℕ) → length ws ≡ 60 → length key ≡ 32 → i < 8

@@ -19,7 +19,7 @@ use Rattle.aes.specs.Steps.{turned, Moved, next_column, row_below, same_column, 
 
 -- ---- bytes that move
 
-pub at_state : (q : Planes) (b r c : ℕ) → r < 4 → c < 4 → at (state q b) r c ≡ number r (8 * c + b) q
+at_state : (q : Planes) (b r c : ℕ) → r < 4 → c < 4 → at (state q b) r c ≡ number r (8 * c + b) q
 unfolding state byte
 at_state q b r c lr lc =
     get_or-map-range_with_len (λ k. byte q b (k % 4) (k / 4)) 0 16 (r + 4 * c) (r + 4 * c) 0 (omega arith) (omega arith)
@@ -31,7 +31,7 @@ eight_same :
 eight_same a0 a1 a2 a3 a4 a5 a6 a7 b0 b1 b2 b3 b4 b5 b6 b7 e0 e1 e2 e3 e4 e5 e6 e7 = cc
 
 -- a function of a state on each of the states, where it takes each byte by its row and column
-pub states_by : (p : Planes) (f : List ℕ → ℕ → ℕ → ℕ) (g : ℕ → ℕ → ℕ → ℕ) → ((b r c : ℕ) → b < 8 → r < 4 → c < 4 → g b r c ≡ f (state p b) r c)
+states_by : (p : Planes) (f : List ℕ → ℕ → ℕ → ℕ) (g : ℕ → ℕ → ℕ → ℕ) → ((b r c : ℕ) → b < 8 → r < 4 → c < 4 → g b r c ≡ f (state p b) r c)
     → map (λ b. map (λ k. g b (k % 4) (k / 4)) (range_with_len 0 16)) (range_with_len 0 8) ≡ map (λ s. state_of (f s)) (states p)
 unfolding states
 states_by p f g h =
@@ -85,7 +85,9 @@ abbrev pub Turned : ℕ → List ℕ → List ℕ → Type 0
 Turned n x y = Moved (row_below n) same_column x y
 
 pub rows_turned :
-    (n : ℕ) (p q : Planes) → Turned n p.p0 q.p0 → Turned n p.p1 q.p1 → Turned n p.p2 q.p2 → Turned n p.p3 q.p3 → Turned n p.p4 q.p4 → Turned n p.p5 q.p5 → Turned n p.p6 q.p6 → Turned n p.p7 q.p7
+    (n : ℕ) (p q : Planes)
+    → Turned n p.p0 q.p0 → Turned n p.p1 q.p1 → Turned n p.p2 q.p2 → Turned n p.p3 q.p3
+    → Turned n p.p4 q.p4 → Turned n p.p5 q.p5 → Turned n p.p6 q.p6 → Turned n p.p7 q.p7
     → states q ≡ map (turned n) (states p)
 unfolding turned
 rows_turned n p q = bytes_moved (row_below n) same_column (λ r h. omega arith) (λ r c h l. l) p q
@@ -111,7 +113,7 @@ one_byte : (a b c d : ℕ) → (b ⊕ (c ⊕ d)) ⊕ xtime (a ⊕ b) ≡ mul 2 a
 one_byte a b c d = rw (mul_two a, mul_three b, mul_one c, mul_one d, xtime_sum a b) (sum_of_five a b c d (xtime a) (xtime b))
 
 -- MixColumns as it is computed
-abbrev pub mixed : List ℕ → List ℕ
+abbrev mixed : List ℕ → List ℕ
 mixed s = let pair = sums s (turned 1 s) in sums (sums (turned 1 s) (turned 2 pair)) (map xtime pair)
 
 mixed_is : (s : List ℕ) → length s ≡ 16 → mixed s ≡ mix_columns s
@@ -131,7 +133,7 @@ mixed_is s l =
     ∙ one_byte (at s r c) (below 1 r c) (below 2 r c) (below 3 r c))
 
 -- what holds of every state of sixteen bytes holds of each of the eight
-pub states_each : (f g : List ℕ → List ℕ) (q : Planes) → ((s : List ℕ) → length s ≡ 16 → f s ≡ g s) → map f (states q) ≡ map g (states q)
+states_each : (f g : List ℕ → List ℕ) (q : Planes) → ((s : List ℕ) → length s ≡ 16 → f s ≡ g s) → map f (states q) ≡ map g (states q)
 unfolding states state
 states_each f g q h =
     map-map f (state q) (range_with_len 0 8)

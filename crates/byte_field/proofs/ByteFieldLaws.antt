@@ -28,7 +28,7 @@ bytes_doubled : (b : ℕ) → b < 256 → ltb (xtime b) 256 ≡ true
 unfolding xtime
 bytes_doubled b = agree_below_at (λ x. ltb (xtime x) 256) (λ _. true) 256 b refl
 
-pub xtime_lt : (b : ℕ) → b < 256 → xtime b < 256
+xtime_lt : (b : ℕ) → b < 256 → xtime b < 256
 xtime_lt b h = ltb-true (xtime b) 256 (bytes_doubled b h)
 
 -- what is taken away is a multiple of the modulus
@@ -113,7 +113,7 @@ congruent_only a r s hr hs e f =
     lt_pow zero = lit< tt
     lt_pow (suc n) = let more = lt_pow n in omega (arith, pow-suc 2 n)
 
-pub mul_lt : (a b : ℕ) → b < 256 → mul a b < 256
+mul_lt : (a b : ℕ) → b < 256 → mul a b < 256
 mul_lt a b h =
     bin_ind (λ (n : ℕ). mul n b < 256)
     (rw mul_zero (lit< tt))

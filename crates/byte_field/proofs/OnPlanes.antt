@@ -11,7 +11,10 @@ use Rattle.byte_field.proofs.Wires.{Wire, bit_lt, plane_of, wires_agree}
 use Rattle.byte_field.proofs.Bits.{number_lt}
 
 -- the states of p are those of q with f on each byte, if the bits of p at each place are those of f on the byte that q has there
-pub each_byte : (p q : Planes) (f : ℕ → ℕ) → ((row place : ℕ) → row < 4 → place < 32 → number_l 2 (map (bit row place) (planes p)) ≡ f (number_l 2 (map (bit row place) (planes q)))) → states p ≡ map (map f) (states q)
+each_byte :
+    (p q : Planes) (f : ℕ → ℕ)
+    → ((row place : ℕ) → row < 4 → place < 32 → number_l 2 (map (bit row place) (planes p)) ≡ f (number_l 2 (map (bit row place) (planes q))))
+    → states p ≡ map (map f) (states q)
 unfolding states state byte
 each_byte p q f e =
     states_from p (λ b row column. f (byte q b row column)) (λ b row column lb lr lc. e row (8 * column + b) lr (omega arith))
@@ -26,7 +29,9 @@ from ps =
     record { p0 = p 0; p1 = p 1; p2 = p 2; p3 = p 3; p4 = p 4; p5 = p 5; p6 = p 6; p7 = p 7 }
 
 -- a circuit that gives the planes `outs`, and on bits `circuit`, gives f of each byte, if it does so of each of the 256
-pub circuit_on_planes : (q : Planes) (outs : List (List ℕ)) (f : ℕ → ℕ) (circuit : (ℕ → ℕ) → List ℕ) (run : (row place : ℕ) → row < 4 → place < 32 → List (Wire row place))
+pub circuit_on_planes :
+    (q : Planes) (outs : List (List ℕ)) (f : ℕ → ℕ) (circuit : (ℕ → ℕ) → List ℕ)
+    (run : (row place : ℕ) → row < 4 → place < 32 → List (Wire row place))
     → ((row place : ℕ) (here : row < 4) (within : place < 32) → map (λ w. w.plane) (run row place here within) ≡ planes (from outs))
     → ((row place : ℕ) (here : row < 4) (within : place < 32) → map (λ w. w.value) (run row place here within) ≡ circuit (bit_at (number_l 2 (map (bit row place) (planes q)))))
     → ((b : ℕ) → b < 256 → number_l 2 (circuit (bit_at b)) ≡ f b)

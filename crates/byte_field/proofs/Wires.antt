@@ -41,7 +41,7 @@ wires_agree row place (w ∷ ws) = ap₂ (λ (b : ℕ) (bs : List ℕ). b ∷ bs
 
 module _ (row place : ℕ) (here : row < 4) (within : place < 32) where
   -- an operator that acts on each bit by itself, on two wires
-  abbrev pub gate : (f : ℕ → ℕ → ℕ) → ((a b : ℕ) → bit_at (f a b) place ≡ f (bit_at a place) (bit_at b place)) → Wire row place → Wire row place → Wire row place
+  abbrev gate : (f : ℕ → ℕ → ℕ) → ((a b : ℕ) → bit_at (f a b) place ≡ f (bit_at a place) (bit_at b place)) → Wire row place → Wire row place → Wire row place
   gate f each u v =
       record {
         plane = zip2 f u.plane v.plane;

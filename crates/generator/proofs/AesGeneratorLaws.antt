@@ -9,7 +9,9 @@ use Rattle.units.proofs.FillLaws.{filled, filled_all}
 use Rattle.aes.specs.KeyExpansion.{aes256}
 use Rattle.generator.specs.AesGenerator.{counter_block}
 
-pub counter_written : (n new last : List ℕ) (i : ℕ) → length new ≡ 12 → new ≡ n → last ≡ four i → put_mid 12 4 (new ++ 0 ∷ 0 ∷ 0 ∷ 0 ∷ []) last ≡ counter_block n i
+pub counter_written :
+    (n new last : List ℕ) (i : ℕ) → length new ≡ 12 → new ≡ n → last ≡ four i
+    → put_mid 12 4 (new ++ 0 ∷ 0 ∷ 0 ∷ 0 ∷ []) last ≡ counter_block n i
 counter_written n new last i l e f =
     ap₂ (λ (x y : List ℕ). x ++ (last ++ drop 4 y)) (take_at new (0 ∷ 0 ∷ 0 ∷ 0 ∷ []) 12 l) (drop_at new (0 ∷ 0 ∷ 0 ∷ 0 ∷ []) 12 l)
     ∙ ap₂ (λ (x y : List ℕ). x ++ y) e (append-nil last ∙ f)

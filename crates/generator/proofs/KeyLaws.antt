@@ -42,7 +42,9 @@ told_first s t r d step told = go (chars (chars_rest s)) r step.2 told
     go (c ∷ cs) None e m = absurd cc
     go (c ∷ cs) (Some b) e m = let same : b ≡ c = cc in m ∙ ap digit same
 
-pub told_digit : (s t : Chars) (r d : Option ℕ) (v : ℕ) → IsUtf8 (chars_rest s) → chars_steps s r t → Told r d → d ≡ Some v → record { digit : Digit (chars (chars_rest s)) v (chars (chars_rest t)); utf8 : IsUtf8 (chars_rest t) }
+pub told_digit :
+    (s t : Chars) (r d : Option ℕ) (v : ℕ) → IsUtf8 (chars_rest s) → chars_steps s r t → Told r d → d ≡ Some v
+    → record { digit : Digit (chars (chars_rest s)) v (chars (chars_rest t)); utf8 : IsUtf8 (chars_rest t) }
 told_digit s t None d v u step told e = absurd cc
 told_digit s t (Some c) d v u step told e =
     record {
@@ -60,9 +62,6 @@ pub record Read (cs left : List ℕ) (k : ℕ) (key : List ℕ) : Type 0 where
   pub digits : prefix_len is_digit front ≡ length front
   pub bytes : bytes_of front ≡ take k key
   pub size : length key ≡ 32
-
-pub read_none : (cs key : List ℕ) → length key ≡ 32 → Read cs cs 0 key
-read_none cs key size = record { front = []; parts = refl; long = refl; digits = refl; bytes = refl; size = size }
 
 -- digits before others
 prefix_len-digits : (front left : List ℕ) → prefix_len is_digit front ≡ length front → prefix_len is_digit (front ++ left) ≡ length front + prefix_len is_digit left
@@ -85,7 +84,9 @@ high_faulty cs left k key r h e =
     let none = no_digit left (sym e) in
     faulty_early cs (2 * k) (ap (prefix_len is_digit) r.parts ∙ omega (arith, r.long)) (omega arith)
 
-pub low_faulty : (cs left : List ℕ) (k : ℕ) (key : List ℕ) (v : ℕ) (rest : List ℕ) → Read cs left k key → k < 32 → Digit left v rest → None ≡ first_digit rest → Err (faulty (2 * k + 1)) ≡ key_of cs
+pub low_faulty :
+    (cs left : List ℕ) (k : ℕ) (key : List ℕ) (v : ℕ) (rest : List ℕ) → Read cs left k key → k < 32 → Digit left v rest → None ≡ first_digit rest
+    → Err (faulty (2 * k + 1)) ≡ key_of cs
 low_faulty cs left k key v rest r h d e =
     let count = prefix_len-digits r.front left r.digits in
     let one = ap (prefix_len is_digit) d.there ∙ one_digit d.code v rest d.is in
@@ -99,7 +100,10 @@ bytes_of-push (suc k) [] a b e = absurd (omega arith)
 bytes_of-push (suc k) (x ∷ []) a b e = absurd (omega arith)
 bytes_of-push (suc k) (x ∷ y ∷ front) a b e = ap (λ (l : List ℕ). (16 * unwrap_or (digit x) 0 + unwrap_or (digit y) 0) ∷ l) (bytes_of-push k front a b (omega arith))
 
-pub read_more : (cs left : List ℕ) (k : ℕ) (key : List ℕ) (high low : ℕ) (middle rest : List ℕ) → Read cs left k key → k < 32 → Digit left high middle → Digit middle low rest → Read cs rest (k + 1) (set key k (16 * high + low))
+pub read_more :
+    (cs left : List ℕ) (k : ℕ) (key : List ℕ) (high low : ℕ) (middle rest : List ℕ)
+    → Read cs left k key → k < 32 → Digit left high middle → Digit middle low rest
+    → Read cs rest (k + 1) (set key k (16 * high + low))
 read_more cs left k key high low middle rest r h a b =
     let pair = a.code ∷ b.code ∷ [] in
     let fits : k < length key = omega (arith, r.size) in

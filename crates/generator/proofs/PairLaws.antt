@@ -18,7 +18,9 @@ pair_stands =
     }
 
 -- the block of a pair is the sum of theirs
-pub pair_answered : (a b : Meaning) (n : List ℕ) (i : ℕ) (x y z : Block) → Sound a → Sound b → Ok x ≡ answered a n i → Ok y ≡ answered b n i → z.0 ≡ x.0 ⊕ y.0 → Ok z ≡ answered (both a b) n i
+pub pair_answered :
+    (a b : Meaning) (n : List ℕ) (i : ℕ) (x y z : Block) → Sound a → Sound b → Ok x ≡ answered a n i → Ok y ≡ answered b n i
+    → z.0 ≡ x.0 ⊕ y.0 → Ok z ≡ answered (both a b) n i
 pair_answered a b n i x y z s t p q e =
     let below : (i < a.reach n) × (i < b.reach n) = (grind (arith, nat_tests), grind (arith, nat_tests)) in
     let long : length (a.block n i) ≡ length (b.block n i) = s.sixteen n i below.0 ∙ sym (t.sixteen n i below.1) in

@@ -41,8 +41,10 @@ shl x y = x * 2 ^ y % 2 ^ 32
 -- ---- vectors of four lanes
 
 -- a lane of what is computed lane by lane from two vectors, and how many lanes it has
-pub lane : (f : ℕ → ℕ → ℕ) (xs ys : List ℕ) (row : ℕ) → row < 4 → length xs ≡ 4 → length ys ≡ 4 → get_or (zip2 f xs ys) row 0 ≡ f (get_or xs row 0) (get_or ys row 0)
+pub lane :
+    (f : ℕ → ℕ → ℕ) (xs ys : List ℕ) (row : ℕ) → row < 4 → length xs ≡ 4 → length ys ≡ 4
+    → get_or (zip2 f xs ys) row 0 ≡ f (get_or xs row 0) (get_or ys row 0)
 lane f xs ys row h l m = get_or-zip2 f xs ys row 0 0 0 (omega arith) (omega arith)
 
-pub four : (f : ℕ → ℕ → ℕ) (xs ys : List ℕ) → length xs ≡ 4 → length ys ≡ 4 → length (zip2 f xs ys) ≡ 4
-four f xs ys l m = length-zip2 f xs ys (l ∙ sym m) ∙ l
+pub four_lanes : (f : ℕ → ℕ → ℕ) (xs ys : List ℕ) → length xs ≡ 4 → length ys ≡ 4 → length (zip2 f xs ys) ≡ 4
+four_lanes f xs ys l m = length-zip2 f xs ys (l ∙ sym m) ∙ l

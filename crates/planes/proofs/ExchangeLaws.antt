@@ -11,7 +11,7 @@ use Rattle.std.proofs.lemmas.Simd.{get_or-replicate}
 use Rattle.units.specs.Sums.{◌⊕◌}
 use Rattle.units.proofs.SumLaws.{bit_either, terms, xor_cancel}
 use Rattle.planes.specs.declared.Planes.{Planes}
-use Rattle.planes.proofs.BitLaws.{bit_at-mod, bit_at_sum, four, lane, same_below, shl, shl_high, shl_low, shr}
+use Rattle.planes.proofs.BitLaws.{bit_at-mod, bit_at_sum, four_lanes, lane, same_below, shl, shl_high, shl_low, shr}
 use Rattle.planes.specs.Planes.{bit}
 use Rattle.planes.specs.Exchanges.{Exchanged, Masks, Stage, Transposed, either, plane, with_bit}
 
@@ -39,13 +39,13 @@ high_enough : (n k : ℕ) → 0 < n → k / n % 2 ≡ 1 → n ≤ k
 high_enough n k positive z = ⊎_elim (λ (h : k < n). let e : k / n ≡ 0 = div-eq_of_lt h in absurd (omega arith)) (λ (h : n ≤ k). h) (cases_lt k n)
 
 -- the bits that differ, where they change
-abbrev pub differing : ℕ → ℕ → ℕ → ℕ → ℕ
+abbrev differing : ℕ → ℕ → ℕ → ℕ → ℕ
 differing n mask a b = bit_and (a / 2 ^ n ⊕ b) mask
 
-abbrev pub lower : ℕ → ℕ → ℕ → ℕ → ℕ
+abbrev lower : ℕ → ℕ → ℕ → ℕ → ℕ
 lower n mask a b = a ⊕ differing n mask a b * 2 ^ n % 2 ^ 32
 
-abbrev pub upper : ℕ → ℕ → ℕ → ℕ → ℕ
+abbrev upper : ℕ → ℕ → ℕ → ℕ → ℕ
 upper n mask a b = b ⊕ differing n mask a b
 
 module _ (n mask a b : ℕ) (positive : 0 < n) (masks : Masks n mask) where
@@ -81,7 +81,9 @@ module _ (n mask a b : ℕ) (positive : 0 < n) (masks : Masks n mask) where
   lower_odd k l z =
       let h = high_enough n k positive z in
       bit_at_sum a (changed * 2 ^ n % 2 ^ 32) k
-      ∙ ap (bit_xor (bit_at a k)) (moved k h l ∙ within (k - n) (omega arith) (omega (arith, below n k positive h)) ∙ ap (λ (m : ℕ). bit_at a m ⊕ bit_at b (k - n)) (let e : n + (k - n) ≡ k = omega arith in e))
+      ∙ ap (bit_xor (bit_at a k)) (moved k h l
+      ∙ within (k - n) (omega arith) (omega (arith, below n k positive h))
+      ∙ ap (λ (m : ℕ). bit_at a m ⊕ bit_at b (k - n)) (let e : n + (k - n) ≡ k = omega arith in e))
       ∙ xor_cancel (bit_at a k) (bit_at b (k - n))
 
   upper_even : (k : ℕ) → k < 32 → k / n % 2 ≡ 0 → bit_at (upper n mask a b) k ≡ bit_at a (n + k)
@@ -90,7 +92,7 @@ module _ (n mask a b : ℕ) (positive : 0 < n) (masks : Masks n mask) where
   upper_odd : (k : ℕ) → k < 32 → k / n % 2 ≡ 1 → bit_at (upper n mask a b) k ≡ bit_at b k
   upper_odd k l z = bit_at_sum b changed k ∙ ap (bit_xor (bit_at b k)) (outside k l z) ∙ xor_zero_r (bit_at b k)
 
-  pub lane_exchanged : (k u : ℕ) → k < 32 → u < 2 → bit_at (either (lower n mask a b) (upper n mask a b) u) k ≡ bit_at (either a b (k / n % 2)) (with_bit n u k)
+  lane_exchanged : (k u : ℕ) → k < 32 → u < 2 → bit_at (either (lower n mask a b) (upper n mask a b) u) k ≡ bit_at (either a b (k / n % 2)) (with_bit n u k)
   lane_exchanged k zero l lu =
       parity_cases (λ d. bit_at (lower n mask a b) k ≡ bit_at (either a b d) (k - d * n + 0 * n)) (k / n)
       (λ z. lower_even k l z ∙ ap (bit_at a) (let e : k ≡ k - 0 * n + 0 * n = omega arith in e))
@@ -112,25 +114,25 @@ lanes_changed n mask a b = zip2 bit_and (zip2 bit_xor (zip2 shr a (replicate 4 n
 
 module _ (n mask : ℕ) (a b : List ℕ) (la : length a ≡ 4) (lb : length b ≡ 4) where
   long : length (zip2 bit_xor (zip2 shr a (replicate 4 n)) b) ≡ 4
-  long = four bit_xor (zip2 shr a (replicate 4 n)) b (four shr a (replicate 4 n) la refl) lb
+  long = four_lanes bit_xor (zip2 shr a (replicate 4 n)) b (four_lanes shr a (replicate 4 n) la refl) lb
 
   changed_lane : (row : ℕ) → row < 4 → get_or (lanes_changed n mask a b) row 0 ≡ differing n mask (get_or a row 0) (get_or b row 0)
   changed_lane row h =
       lane bit_and (zip2 bit_xor (zip2 shr a (replicate 4 n)) b) (replicate 4 mask) row h long refl
       ∙ ap₂ bit_and
-      (lane bit_xor (zip2 shr a (replicate 4 n)) b row h (four shr a (replicate 4 n) la refl) lb
+      (lane bit_xor (zip2 shr a (replicate 4 n)) b row h (four_lanes shr a (replicate 4 n) la refl) lb
       ∙ ap (λ (x : ℕ). x ⊕ get_or b row 0) (lane shr a (replicate 4 n) row h la refl ∙ ap (shr (get_or a row 0)) (get_or-replicate 4 row n 0 h)))
       (get_or-replicate 4 row mask 0 h)
 
   lower_lane : (row : ℕ) → row < 4 → get_or (zip2 bit_xor a (zip2 shl (lanes_changed n mask a b) (replicate 4 n))) row 0 ≡ lower n mask (get_or a row 0) (get_or b row 0)
   lower_lane row h =
-      let size = four bit_and (zip2 bit_xor (zip2 shr a (replicate 4 n)) b) (replicate 4 mask) long refl in
-      lane bit_xor a (zip2 shl (lanes_changed n mask a b) (replicate 4 n)) row h la (four shl (lanes_changed n mask a b) (replicate 4 n) size refl)
+      let size = four_lanes bit_and (zip2 bit_xor (zip2 shr a (replicate 4 n)) b) (replicate 4 mask) long refl in
+      lane bit_xor a (zip2 shl (lanes_changed n mask a b) (replicate 4 n)) row h la (four_lanes shl (lanes_changed n mask a b) (replicate 4 n) size refl)
       ∙ ap (bit_xor (get_or a row 0)) (lane shl (lanes_changed n mask a b) (replicate 4 n) row h size refl ∙ ap₂ shl (changed_lane row h) (get_or-replicate 4 row n 0 h))
 
   upper_lane : (row : ℕ) → row < 4 → get_or (zip2 bit_xor b (lanes_changed n mask a b)) row 0 ≡ upper n mask (get_or a row 0) (get_or b row 0)
   upper_lane row h =
-      lane bit_xor b (lanes_changed n mask a b) row h lb (four bit_and (zip2 bit_xor (zip2 shr a (replicate 4 n)) b) (replicate 4 mask) long refl)
+      lane bit_xor b (lanes_changed n mask a b) row h lb (four_lanes bit_and (zip2 bit_xor (zip2 shr a (replicate 4 n)) b) (replicate 4 mask) long refl)
       ∙ ap (bit_xor (get_or b row 0)) (changed_lane row h)
 
   pub exchanged : 0 < n → Masks n mask → Exchanged n a b (zip2 bit_xor a (zip2 shl (lanes_changed n mask a b) (replicate 4 n))) (zip2 bit_xor b (lanes_changed n mask a b))
@@ -167,7 +169,7 @@ module _ (n : ℕ) (q r : Planes) (positive : 0 < n) (pairs : (j : ℕ) → j < 
   moved_in base u row place hb z h l lu =
       (pairs base hb z).moved row place u h l lu ∙ ap (bit row (with_bit n u place)) (one_of base (place / n % 2) (mod-lt (place / n) (lit< tt)))
 
-  pub stage_from : Stage n q r
+  stage_from : Stage n q r
   stage_from = record {
     moved = λ row place j h l lj.
         parity_cases (λ d. bit row place (plane r j) ≡ bit row (with_bit n d place) (plane q (j - d * n + place / n % 2 * n))) (j / n)

@@ -57,8 +57,14 @@ collected_by_rows xs small = record {
 
 -- ---- eight planes
 
-map_bits : (q : Planes) (row place x : ℕ) → ((j : ℕ) → j < 8 → bit row place (plane q j) ≡ bit_at x j) → map (bit row place) (planes q) ≡ map (bit_at x) (range_with_len 0 8)
-map_bits q row place x h = fill_by_all (bit_at x) (map (bit row place) (planes q)) 8 0 refl (below_eight (λ j. get_or (map (bit row place) (planes q)) j 0 ≡ bit_at x j) (h 0 (lit< tt)) (h 1 (lit< tt)) (h 2 (lit< tt)) (h 3 (lit< tt)) (h 4 (lit< tt)) (h 5 (lit< tt)) (h 6 (lit< tt)) (h 7 (lit< tt)))
+map_bits :
+    (q : Planes) (row place x : ℕ) → ((j : ℕ) → j < 8 → bit row place (plane q j) ≡ bit_at x j)
+    → map (bit row place) (planes q) ≡ map (bit_at x) (range_with_len 0 8)
+map_bits q row place x h =
+    let bits = map (bit row place) (planes q) in
+    fill_by_all (bit_at x) bits 8 0 refl
+    (below_eight (λ j. get_or bits j 0 ≡ bit_at x j)
+    (h 0 (lit< tt)) (h 1 (lit< tt)) (h 2 (lit< tt)) (h 3 (lit< tt)) (h 4 (lit< tt)) (h 5 (lit< tt)) (h 6 (lit< tt)) (h 7 (lit< tt)))
 
 module _ (xss : List (List ℕ)) (l : length xss ≡ 8) where
   abbrev at : ℕ → ℕ → ℕ
@@ -89,12 +95,14 @@ module _ (xss : List (List ℕ)) (l : length xss ≡ 8) where
         held q (λ b lb. (spread b lb).size) (λ b lb. (spread b lb).octets)
         (λ row column b j lr lc lb lj. turned.moved row column b j lr lc lb lj ∙ (spread b lb).there row column j lr lc lj)
 
-    pub into_states : Transposed q s → xss ≡ states q
+    into_states : Transposed q s → xss ≡ states q
     into_states turned =
         sym (held q (λ b lb. (spread b lb).size) (λ b lb. (spread b lb).octets)
         (λ row column b j lr lc lb lj. sym (turned.moved row column j b lr lc lj lb) ∙ (spread b lb).there row column j lr lc lj))
 
 pub to_states :
-    (b0 b1 b2 b3 b4 b5 b6 b7 : List ℕ) (s q : Planes) → Spread b0 s.p0 → Spread b1 s.p1 → Spread b2 s.p2 → Spread b3 s.p3 → Spread b4 s.p4 → Spread b5 s.p5 → Spread b6 s.p6 → Spread b7 s.p7
+    (b0 b1 b2 b3 b4 b5 b6 b7 : List ℕ) (s q : Planes)
+    → Spread b0 s.p0 → Spread b1 s.p1 → Spread b2 s.p2 → Spread b3 s.p3
+    → Spread b4 s.p4 → Spread b5 s.p5 → Spread b6 s.p6 → Spread b7 s.p7
     → Transposed q s → (b0 ∷ b1 ∷ b2 ∷ b3 ∷ b4 ∷ b5 ∷ b6 ∷ b7 ∷ []) ≡ states q
 to_states b0 b1 b2 b3 b4 b5 b6 b7 s q s0 s1 s2 s3 s4 s5 s6 s7 turned = into_states (b0 ∷ b1 ∷ b2 ∷ b3 ∷ b4 ∷ b5 ∷ b6 ∷ b7 ∷ []) refl s q s0 s1 s2 s3 s4 s5 s6 s7 turned

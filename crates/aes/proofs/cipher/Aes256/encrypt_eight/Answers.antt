@@ -15,7 +15,8 @@ loop-round-preserved c =
     let self = c.args.self.now in
     let l = c.loop-round in
     let d = c.index-self-round.result in
-    next_round self.key c.args.blocks.now l.round (key_of (get_or self.round_keys l.round d)) l.q c.sub_bytes.result c.shift_rows.result c.mix_columns.result c.add_to-q-in-loop-round.result (search rules)
+    next_round self.key c.args.blocks.now l.round (key_of (get_or self.round_keys l.round d)) l.q
+    c.sub_bytes.result c.shift_rows.result c.mix_columns.result c.add_to-q-in-loop-round.result (search rules)
     (key_at self.key self.round_keys l.round d self.expanded (search rules))
     l.invariant c.sub_bytes.ensures.value c.shift_rows.ensures c.mix_columns.ensures c.add_to-q-in-loop-round.ensures
 
@@ -24,6 +25,7 @@ returns c =
     let self = c.args.self.now in
     let l = c.loop-round in
     let d = c.index-self-14.result in
-    last_round self.key c.args.blocks.now l.round (key_of (get_or self.round_keys 14 d)) l.q c.sub_bytes-2.result c.shift_rows-2.result c.add_to-last.result c.to_blocks.result (search rules)
+    last_round self.key c.args.blocks.now l.round (key_of (get_or self.round_keys 14 d)) l.q
+    c.sub_bytes-2.result c.shift_rows-2.result c.add_to-last.result c.to_blocks.result (search rules)
     (key_at self.key self.round_keys 14 d self.expanded (search rules))
     l.invariant c.sub_bytes-2.ensures.value c.shift_rows-2.ensures c.add_to-last.ensures c.to_blocks.ensures

@@ -16,25 +16,32 @@ returns-in_err-high c =
 
 pub returns-in_err-low : goal.returns-in_err-low
 returns-in_err-low c =
-    let left = c.loop-place.characters in
+    let l = c.loop-place in
+    let left = l.characters in
     let next = c.next.new.self in
-    let high = told_digit left next c.next.result c.and_then.result c.in_ok-high.high c.loop-place.invariant.utf8 c.next.ensures.steps (search rules) (grind arith) in
+    let high = told_digit left next c.next.result c.and_then.result c.in_ok-high.high l.invariant.utf8 c.next.ensures.steps (search rules) (grind arith) in
     let none : c.and_then-in-loop-place.result ≡ None = grind arith in
-    let ends = sym none ∙ told_first next c.next-in-loop-place.new.self c.next-in-loop-place.result c.and_then-in-loop-place.result c.next-in-loop-place.ensures.steps (search rules) in
-    let faulty = low_faulty (chars c.args.text.now) (chars (chars_rest left)) c.loop-place.place c.loop-place.byte-items c.in_ok-high.high (chars (chars_rest next)) c.loop-place.invariant.read (omega arith) high.digit ends in
+    let step = c.next-in-loop-place in
+    let ends = sym none ∙ told_first next step.new.self step.result c.and_then-in-loop-place.result step.ensures.steps (search rules) in
+    let text = chars c.args.text.now in
+    let faulty = low_faulty text (chars (chars_rest left)) l.place l.byte-items c.in_ok-high.high (chars (chars_rest next)) l.invariant.read (omega arith) high.digit ends in
     let exit = err_from_is_err_and c.from_residual-in_err-low.result c.from_residual-in_err-low.ensures.1 in
     told c.args.text.now c.from_residual-in_err-low.result c.utf8.text (rw (exit.1, exit.2) (grind (arith, faulty)))
 
 pub loop-place-preserved : goal.loop-place-preserved
 loop-place-preserved c =
-    let left = c.loop-place.characters in
+    let l = c.loop-place in
+    let left = l.characters in
     let next = c.next.new.self in
-    let last = c.next-in-loop-place.new.self in
-    let high = told_digit left next c.next.result c.and_then.result c.in_ok-high.high c.loop-place.invariant.utf8 c.next.ensures.steps (search rules) (grind arith) in
-    let low = told_digit next last c.next-in-loop-place.result c.and_then-in-loop-place.result c.in_ok-low.low high.utf8 c.next-in-loop-place.ensures.steps (search rules) (grind arith) in
+    let step = c.next-in-loop-place in
+    let last = step.new.self in
+    let high = told_digit left next c.next.result c.and_then.result c.in_ok-high.high l.invariant.utf8 c.next.ensures.steps (search rules) (grind arith) in
+    let low = told_digit next last step.result c.and_then-in-loop-place.result c.in_ok-low.low high.utf8 step.ensures.steps (search rules) (grind arith) in
     record {
       utf8 = low.utf8;
-      read = read_more (chars c.args.text.now) (chars (chars_rest left)) c.loop-place.place c.loop-place.byte-items c.in_ok-high.high c.in_ok-low.low (chars (chars_rest next)) (chars (chars_rest last)) c.loop-place.invariant.read (omega arith) high.digit low.digit;
+      read =
+          read_more (chars c.args.text.now) (chars (chars_rest left)) l.place l.byte-items c.in_ok-high.high c.in_ok-low.low (chars (chars_rest next)) (chars (chars_rest last))
+          l.invariant.read (omega arith) high.digit low.digit;
     }
 
 pub returns-in-None : goal.returns-in-None
