@@ -7,9 +7,9 @@ use Rattle.units.proofs.StringLaws.{Octets-map}
 use Rattle.units.proofs.SumLaws.{Octets-sums, length-sums}
 use Rattle.planes.specs.declared.Planes.{Planes}
 use Rattle.planes.specs.Planes.{bit, byte, planes, state}
-use Rattle.byte_field.proofs.Bits.{number_lt}
+use Rattle.byte_field.proofs.NumberLaws.{number_lt}
 use Rattle.byte_field.proofs.SboxLaws.{sbox_lt}
-use Rattle.byte_field.proofs.Wires.{bit_lt}
+use Rattle.byte_field.proofs.WireLaws.{bit_lt}
 use Rattle.byte_field.specs.Sbox.{sbox}
 use Rattle.aes.specs.Cipher.{cipher, round_key, rounds, shift_rows}
 use Rattle.aes.specs.KeyExpansion.{aes256, round_keys_of}

@@ -1,6 +1,6 @@
-pub mod Bits
+pub mod NumberLaws
 pub mod ByteFieldLaws
 pub mod SboxLaws
-pub mod Wires
-pub mod OnPlanes
-pub mod Circuits
+pub mod WireLaws
+pub mod StateLaws
+pub mod CircuitLaws

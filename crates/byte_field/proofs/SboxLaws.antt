@@ -6,7 +6,7 @@ use Rattle.units.specs.Sums.{◌⊕◌}
 use Rattle.polynomials.specs.Polynomials.{digitwise}
 use Rattle.byte_field.specs.ByteField.{inverse, mul, squares, xtime}
 use Rattle.byte_field.specs.Sbox.{TableStands, affine_bit, sbox, table}
-use Rattle.byte_field.proofs.Bits.{number_lt}
+use Rattle.byte_field.proofs.NumberLaws.{number_lt}
 
 pub table_stands : TableStands
 unfolding table sbox inverse squares mul digitwise xtime

@@ -1,6 +1,6 @@
 use Rattle.std.proofs.Common.{rules}
 use Rattle.byte_field.proofs.ByteFieldLaws.{byte_field_stands}
-use Rattle.byte_field.proofs.Circuits.{doubled_circuit, doubled_states}
+use Rattle.byte_field.proofs.CircuitLaws.{doubled_circuit, doubled_states}
 use Rattle.byte_field.proofs.doubling.doubled.Goals as goal
 
 pub returns-clause-value : goal.returns-clause-value

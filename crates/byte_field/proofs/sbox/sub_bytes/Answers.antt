@@ -1,7 +1,7 @@
 use Rattle.std.proofs.Common.{rules}
 use Rattle.byte_field.proofs.ByteFieldLaws.{byte_field_stands}
 use Rattle.byte_field.proofs.SboxLaws.{table_stands}
-use Rattle.byte_field.proofs.Circuits.{sbox_circuit, sbox_states}
+use Rattle.byte_field.proofs.CircuitLaws.{sbox_circuit, sbox_states}
 use Rattle.byte_field.proofs.sbox.sub_bytes.Goals as goal
 
 pub returns-clause-value : goal.returns-clause-value

@@ -11,7 +11,7 @@ use Rattle.std.specs.Simd.Lanes.{number_l, zip2}
 use Rattle.planes.specs.Planes.{bit}
 use Rattle.planes.proofs.BitLaws.{bit_at_sum}
 use Rattle.planes.proofs.PlaneLaws.{FourLanes}
-use Rattle.byte_field.proofs.Bits.{number_bit}
+use Rattle.byte_field.proofs.NumberLaws.{number_bit}
 
 -- the two operators, and what has a one at every place
 pub record Gates (A : Type 0) : Type 0 where

@@ -9,8 +9,8 @@ use Rattle.planes.proofs.PlaneLaws.{FourLanes}
 use Rattle.polynomials.specs.Polynomials.{digitwise}
 use Rattle.byte_field.specs.ByteField.{inverse, mul, squares, xtime}
 use Rattle.byte_field.specs.Sbox.{sbox}
-use Rattle.byte_field.proofs.Wires.{Gates, on_bits, on_planes, on_wires, plane_of, wire}
-use Rattle.byte_field.proofs.OnPlanes.{circuit_on_planes, from}
+use Rattle.byte_field.proofs.WireLaws.{Gates, on_bits, on_planes, on_wires, plane_of, wire}
+use Rattle.byte_field.proofs.StateLaws.{circuit_on_planes, from}
 
 -- ---- times x
 

@@ -7,8 +7,8 @@ use Rattle.std.proofs.lemmas.Simd.{map-map}
 use Rattle.planes.specs.Planes.{bit, byte, planes, state, states}
 use Rattle.planes.specs.declared.Planes.{Planes}
 use Rattle.planes.proofs.PlaneLaws.{map_same, states_from}
-use Rattle.byte_field.proofs.Wires.{Wire, bit_lt, plane_of, wires_agree}
-use Rattle.byte_field.proofs.Bits.{number_lt}
+use Rattle.byte_field.proofs.WireLaws.{Wire, bit_lt, plane_of, wires_agree}
+use Rattle.byte_field.proofs.NumberLaws.{number_lt}
 
 -- the states of p are those of q with f on each byte, if the bits of p at each place are those of f on the byte that q has there
 each_byte :
