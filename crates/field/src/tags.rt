@@ -39,7 +39,7 @@ impl TagKeys {
 
 /// The message bits as four bytes at offset 0, and the AAD bits at offset 8, the least significant byte first.
 #[tactic(auto, unfolding(crate::specs::Tags::lengths))]
-fn lengths(bits: Bits, aad_bits: Bits) -> Block
+pub fn lengths(bits: Bits, aad_bits: Bits) -> Block
     ensures { result.0 ≡ lengths bits.0 aad_bits.0 }
 {
     Block(u128::from(bits.0) + (u128::from(aad_bits.0) << 64))

@@ -12,3 +12,7 @@ pub record Split : Type 0 where
 
 unfoldable pub split : ℕ → Split
 split n = record { whole = n / 128; left = n % 128 }
+
+-- the blocks that n bits begin
+unfoldable pub begun : ℕ → ℕ
+begun n = (n + 127) / 128

@@ -1,5 +1,5 @@
 -- Why a call says no: the reasons, their numbers, and how a refusal is written.
-use Rattle.std.specs.Prelude.{ℕ, List, ◌++◌, codes, decimal}
+use Rattle.std.specs.Prelude.{ℕ, Bool, cond, List, ◌++◌, Some, None, Option, codes, decimal}
 use Rattle.units.specs.declared.refusals.Layer.{Layer}
 use Rattle.units.specs.declared.refusals.Layer.TheVariants.{Cover, Link, Generator, Recording, KeyText}
 use Rattle.units.specs.declared.refusals.Reason.{Reason}
@@ -28,6 +28,16 @@ number FaultyKey = 16
 -- a refusal for a reason, which names a layer and a place
 abbrev pub refusal : Reason → Layer → ℕ → Refusal
 refusal r l p = record { reason = r; layer = l; place = p }
+
+-- the outcome of a test: a refusal where it is met
+abbrev pub refused : Bool → Reason → Layer → ℕ → Option Refusal
+refused met r l p = cond met (Some (refusal r l p)) None
+
+infixr 40 ◌⊳◌
+-- the first refusal of two tests, made one after the other
+abbrev pub ◌⊳◌ : Option Refusal → Option Refusal → Option Refusal
+(Some r) ⊳ b = Some r
+None ⊳ b = b
 
 -- a layer as one word
 abbrev pub word : Layer → List ℕ

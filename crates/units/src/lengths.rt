@@ -1,7 +1,7 @@
 //! Lengths in bits and lengths in bytes, as two types: a call that takes one cannot be handed the other.
 //! The only way from one to the other is `Bits::bytes`.
 ghost use Rattle.std.specs.Prelude.{◌≡◌, ℕ, ◌+◌, ◌*◌, ◌<◌, ◌≤◌};
-ghost use Rattle.units.specs.Lengths.{filled, split};
+ghost use Rattle.units.specs.Lengths.{begun, filled, split};
 
 /// A length in bits.
 #[derive(Clone, Copy, Debug, PartialEq, Eq, PartialOrd, Ord)]
@@ -31,6 +31,17 @@ impl Bits {
         ensures less { result.1.0 < 128 }
     {
         (self.0 / BLOCK.0, Bits(self.0 % BLOCK.0))
+    }
+
+    /// How many blocks these bits begin: the smallest number of blocks that holds them.
+    #[tactic(auto, unfolding(crate::specs::Lengths::begun, crate::specs::Lengths::split))]
+    pub fn blocks(self) -> u32
+        ensures value { result ≡ begun self.0 }
+        ensures holds { self.0 ≤ 128 * result }
+        ensures smallest { (k : ℕ) → self.0 ≤ 128 * k → result ≤ k }
+    {
+        let (whole, left) = self.split();
+        whole + u32::from(left.0 > 0)
     }
 }
 
