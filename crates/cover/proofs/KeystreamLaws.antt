@@ -1,0 +1,74 @@
+-- Keystream, and covering by it.
+use Rattle.std.proofs.Common.{◌≡◌, ℕ, zero, suc, ◌*◌, ◌≤◌, ltb, true, List, [], ◌∷◌, length, sym, refl, ap, ◌∙◌, ap₂, le_of_suc-le-suc, not-suc-le-zero, arith, length-append}
+use Rattle.std.proofs.lemmas.Bool.{le-ltb, cond-false}
+use Rattle.units.specs.Lengths.{begun, filled}
+use Rattle.units.specs.Spare.{bit_at, clear, cleared}
+use Rattle.units.specs.Sums.{sums}
+use Rattle.units.proofs.SpareLaws.{clear_told, cleared_told, cleared-sums, length-cleared}
+use Rattle.units.proofs.StringLaws.{same_tells}
+use Rattle.units.proofs.SumLaws.{length-sums, terms}
+use Rattle.generator.specs.Generators.{Meaning, Sound}
+use Rattle.cover.specs.Keystream.{covered, stream}
+
+-- ---- byte strings
+
+-- what is cleared is clear
+clear-cleared : (n : ℕ) (xs : List ℕ) → clear n (cleared n xs) ≡ true
+clear-cleared n xs =
+    (clear_told n (cleared n xs) (clear n (cleared n xs)) refl).1
+    (λ i h. cleared_told n xs (cleared n xs) refl i ∙ cond-false (ltb i n) (bit_at xs i) 0 (le-ltb i n h))
+
+-- clearing again changes nothing
+cleared_again : (n : ℕ) (xs : List ℕ) → cleared n (cleared n xs) ≡ cleared n xs
+cleared_again n xs = (same_tells (cleared n (cleared n xs)) (cleared n xs)).0 (clear-cleared n xs)
+
+-- what is added twice falls out
+sums_again : (xs ks : List ℕ) → length xs ≤ length ks → sums (sums xs ks) ks ≡ xs
+sums_again [] ks h = refl
+sums_again (x ∷ xs) [] h = absurd (not-suc-le-zero h)
+sums_again (x ∷ xs) (k ∷ ks) h = ap₂ (λ (b : ℕ) (bs : List ℕ). b ∷ bs) (simp terms) (sums_again xs ks (le_of_suc-le-suc h))
+
+-- the blocks that bits begin have room for the bytes that they fill
+pub begun_enough : (n : ℕ) → filled n ≤ 16 * begun n
+unfolding filled begun
+begun_enough n = omega arith
+
+-- ---- under a nonce of a sound meaning
+
+module _ (m : Meaning) (sound : Sound m) (n : List ℕ) where
+  -- sixteen bytes for each block
+  pub length-stream : (count : ℕ) → count ≤ m.reach n → length (stream m n count) ≡ 16 * count
+  unfolding stream
+  length-stream zero h = refl
+  length-stream (suc k) h =
+      let front = length-stream k (omega arith) in
+      let last = sound.sixteen n k h in
+      length-append (stream m n k) (m.block n k) ∙ omega arith
+
+  module _ (bits : ℕ) (text : List ℕ) (reaches : begun bits ≤ m.reach n) (long : length text ≡ filled bits) where
+    -- the keystream goes as far as the text
+    text_within : length text ≤ length (stream m n (begun bits))
+    text_within = omega (arith, length-stream (begun bits) reaches, begun_enough bits)
+
+    -- covering keeps the length
+    pub length-covered : length (covered m n bits text) ≡ filled bits
+    unfolding covered
+    length-covered =
+        length-cleared bits (sums text (stream m n (begun bits)))
+        ∙ length-sums text (stream m n (begun bits)) text_within
+        ∙ long
+
+    -- covering twice only clears the spare bits
+    pub covered_twice : covered m n bits (covered m n bits text) ≡ cleared bits text
+    unfolding covered
+    covered_twice =
+        let keys = stream m n (begun bits) in
+        cleared-sums bits (cleared bits (sums text keys)) keys
+        ∙ ap (λ (l : List ℕ). sums l (cleared bits keys)) (cleared_again bits (sums text keys))
+        ∙ sym (cleared-sums bits (sums text keys) keys)
+        ∙ ap (cleared bits) (sums_again text keys text_within)
+
+-- what is covered has clear spare bits
+pub clear-covered : (m : Meaning) (n : List ℕ) (bits : ℕ) (text : List ℕ) → clear bits (covered m n bits text) ≡ true
+unfolding covered
+clear-covered m n bits text = clear-cleared bits (sums text (stream m n (begun bits)))

@@ -1,0 +1,5 @@
+pub mod TagLaws
+pub mod SlotLaws
+pub mod KeystreamLaws
+pub mod StreamLaws
+pub mod CoverLaws

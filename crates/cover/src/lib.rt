@@ -1,0 +1,13 @@
+//! The cover: NEA5, NIA5 and NCA5 over any generator of keystream.
+//!
+//! A call tests what it is given first, in the order of the refusals' numbers, and writes only when nothing is refused. The
+//! caller lends it a work area of 64 bytes, which is zero afterwards on every way out.
+#![tactic(auto)]
+
+mod keystream;
+pub mod nca5;
+pub mod nea5;
+pub mod nia5;
+mod tags;
+mod tests;
+mod work_area;

@@ -1,0 +1,40 @@
+//! NEA5: a message plus the keystream.
+ghost use Rattle.std.specs.Prelude.{◌≡◌, length};
+ghost use Rattle.generator.specs.Generators.{Same};
+ghost use Rattle.cover.specs.Answers.{outcome};
+ghost use Rattle.cover.specs.Nea5.{Nea5Twice, nea5};
+ghost use Rattle.cover.specs.WorkArea.{wiped};
+
+use super::keystream::cover;
+use super::tests::{refuse_if, refuse_short, unfilled};
+use super::work_area::{LENGTH, WorkArea};
+use generator::Generator;
+use nonces::Parameters;
+use units::{BitString, Bits, Reason, Refusal};
+
+/// Writes the input plus the keystream, with the spare bits cleared. The same call gives the input back.
+///
+/// The work area is zero afterwards, whatever the answer. A refusal leaves the output as it was.
+#[tactic(auto, using(crate::proofs::CoverLaws::nea5_twice))]
+pub fn nea5<G: Generator>(
+    generator: &mut G,
+    work: &mut [u8],
+    parameters: &Parameters,
+    input: BitString<'_>,
+    output: &mut [u8],
+) -> Result<(), Refusal>
+    ensures outcome { outcome result output.new ≡ nea5 (G.meaning generator.old) (length work.old) parameters.now input.entry.bits.0 input.entry.bytes.now output.old }
+    ensures work { work.new ≡ wiped work.old }
+    ensures same { Same (G.meaning generator.old) (G.meaning generator.new) }
+    ensures twice { Nea5Twice }
+{
+    let mut area = WorkArea::new(work);
+    refuse_if(area.len() != LENGTH, Reason::WorkArea)?;
+    let nonce = parameters.nonce(None, false, false)?;
+    refuse_if(input.bits == Bits(0), Reason::BitLength)?;
+    refuse_if(unfilled(input.bits, input.bytes), Reason::InputBytes)?;
+    refuse_if(unfilled(input.bits, output), Reason::OutputBytes)?;
+    refuse_short(generator, &nonce, u64::from(input.bits.blocks()))?;
+    cover(generator, &nonce, &mut area, input, output);
+    Ok(())
+}

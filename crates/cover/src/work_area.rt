@@ -1,0 +1,128 @@
+//! The work area: 64 bytes of the caller's that hold H, Q, P and the current block of keystream while a call needs them.
+ghost use Rattle.std.specs.Prelude.{◌≡◌, ℕ, ◌+◌, ◌≤◌, length, take};
+ghost use Rattle.units.specs.Strings.{Octets, same};
+ghost use Rattle.units.specs.Sums.{sums};
+ghost use Rattle.generator.specs.Generators.{Same};
+ghost use Rattle.field.specs.Blocks.{block_bytes, polynomial};
+ghost use Rattle.cover.specs.WorkArea.{slot, wiped};
+
+use field::Block;
+use generator::{Generator, Nonce};
+
+/// How long a work area has to be.
+pub(crate) const LENGTH: usize = 64;
+
+/// How long a block is.
+const BLOCK: usize = 16;
+
+/// Where H stands in a work area.
+pub(crate) const H: usize = 0;
+
+/// Where Q stands.
+pub(crate) const Q: usize = 16;
+
+/// Where P stands.
+pub(crate) const P: usize = 32;
+
+/// Where the current block of keystream stands, and later the tag.
+pub(crate) const CURRENT: usize = 48;
+
+/// A guard over the caller's bytes, of whatever length. All of them are zero once it is dropped, on whatever way.
+pub(crate) struct WorkArea<'a> {
+    bytes: &'a mut [u8],
+}
+
+impl Drop for WorkArea<'_> {
+    fn drop(self)
+        ensures { self.exit.0.now ≡ wiped self.entry.bytes.now }
+    {
+        self.bytes.fill(0);
+        let WorkArea { bytes: _ } = self;
+    }
+}
+
+impl<'a> WorkArea<'a> {
+    pub(crate) fn new(bytes: &'a mut [u8]) -> WorkArea<'a>
+        ensures now { result.bytes.now ≡ bytes.entry.now }
+        ensures name { result.bytes.ghost_name ≡ bytes.entry.ghost_name }
+    {
+        WorkArea { bytes }
+    }
+}
+
+impl WorkArea<'_> {
+    pub(crate) fn len(&self) -> usize
+        ensures { result ≡ length self.now.bytes.now }
+    {
+        self.bytes.len()
+    }
+
+    /// Puts a block at a place. Blocks before it stay.
+    pub(crate) fn put(&mut self, place: usize, block: Block)
+        requires { place + 16 ≤ length self.now.bytes.now }
+        ensures name { self.new.bytes.ghost_name ≡ self.old.bytes.ghost_name }
+        ensures length { length self.new.bytes.now ≡ length self.old.bytes.now }
+        ensures here { slot self.new.bytes.now place ≡ block_bytes block.0 }
+        ensures before { (i : ℕ) → i + 16 ≤ place → slot self.new.bytes.now i ≡ slot self.old.bytes.now i }
+    {
+        self.bytes[place..place + BLOCK].copy_from_slice(&block.to_bytes());
+    }
+
+    /// The block at a place.
+    #[tactic(auto, unfolding(crate::specs::WorkArea::slot))]
+    pub(crate) fn block(&self, place: usize) -> Block
+        requires { place + 16 ≤ length self.now.bytes.now }
+        ensures { result.0 ≡ polynomial (slot self.now.bytes.now place) }
+    {
+        let mut block = [0; BLOCK];
+        block.copy_from_slice(&self.bytes[place..place + BLOCK]);
+        Block::from_bytes(&block)
+    }
+
+    /// Adds the current block to at most sixteen bytes.
+    pub(crate) fn add_current(&self, text: &[u8], sum: &mut [u8])
+        requires room { length self.now.bytes.now ≡ 64 }
+        requires octets { Octets (slot self.now.bytes.now 48) }
+        requires short { length text.now ≤ 16 }
+        requires alike { length sum.now ≡ length text.now }
+        ensures { sum.new ≡ sums text.now (slot self.now.bytes.now 48) }
+    {
+        let mut block = [0; BLOCK];
+        block[..text.len()].copy_from_slice(text);
+        let total = Block::from_bytes(&block) + self.block(CURRENT);
+        sum.copy_from_slice(&total.to_bytes()[..text.len()]);
+    }
+
+    /// Whether a tag is the beginning of the current block. Every byte of it is looked at, whatever the others are.
+    #[tactic(auto, unfolding(crate::specs::WorkArea::slot), using(crate::proofs::TagLaws::slot_begins))]
+    pub(crate) fn begins_with(&self, tag: &[u8]) -> bool
+        requires room { length self.now.bytes.now ≡ 64 }
+        requires short { length tag.now ≤ 16 }
+        ensures { result ≡ same tag.now (take (length tag.now) (slot self.now.bytes.now 48)) }
+    {
+        begins_with(&self.bytes[CURRENT..], tag)
+    }
+
+    /// Copies the beginning of the current block.
+    #[tactic(auto, unfolding(crate::specs::WorkArea::slot))]
+    pub(crate) fn copy_to(&self, tag: &mut [u8])
+        requires room { length self.now.bytes.now ≡ 64 }
+        requires short { length tag.now ≤ 16 }
+        ensures { tag.new ≡ take (length tag.old) (slot self.now.bytes.now 48) }
+    {
+        tag.copy_from_slice(&self.bytes[CURRENT..CURRENT + tag.len()]);
+    }
+}
+
+/// Whether `bytes` begin with `tag`. Every byte of the tag is looked at, whatever the others are.
+#[tactic(auto, using(crate::proofs::TagLaws::unlike_none, crate::proofs::TagLaws::unlike_more, crate::proofs::TagLaws::unlike_tells))]
+fn begins_with(bytes: &[u8], tag: &[u8]) -> bool
+    requires { length tag.now ≤ length bytes.now }
+    ensures { result ≡ same tag.now (take (length tag.now) bytes.now) }
+{
+    let mut unlike = 0;
+    for i in 0..tag.len() {
+        unlike |= tag[i] ^ bytes[i];
+    }
+    unlike == 0
+}
