@@ -1,4 +1,3 @@
 pub mod Blocks
 pub mod Folds
 pub mod Tags
-pub mod Known

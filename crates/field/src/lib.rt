@@ -6,7 +6,6 @@
 pub mod blocks;
 pub mod folds;
 mod iter;
-pub mod known;
 pub mod tags;
 
 pub use blocks::{Block, pdot};

@@ -1,0 +1,2 @@
+pub mod Flat
+pub mod Known
