@@ -7,12 +7,13 @@ ghost use Rattle.field.specs.Folds.{fold};
 ghost use Rattle.field.specs.Tags.{tag};
 ghost use Rattle.polynomials.specs.Words.{sum_of};
 ghost use Rattle.aes.specs.KeyExpansion.{aes256};
-ghost use Rattle.generator.specs.AesGenerator.{counter_block};
+ghost use Rattle.aes_generator.specs.AesGenerator.{counter_block};
 ghost use Rattle.bench.specs.Turns.{again};
 
 use aes::Aes256;
+use aes_generator::AesGenerator;
 use field::{Block, TagKeys, fold};
-use generator::{AesGenerator, Generator, Key, Nonce};
+use generator::{Generator, Key, Nonce};
 use units::{BitString, Bits};
 
 /// Folds so many bits of data with the block `h`, from the block `value` and into it.

@@ -1,7 +1,7 @@
 -- What the generators of the commands mean.
-use Rattle.generator.specs.AesGenerator.{aes_meaning}
 use Rattle.generator.specs.Generators.{Meaning, Sound}
-use Rattle.generator.specs.Soundness.{aes_sound}
+use Rattle.aes_generator.specs.AesGenerator.{aes_meaning}
+use Rattle.aes_generator.specs.Soundness.{aes_sound}
 use Rattle.recording.specs.Playing.{played}
 use Rattle.catsvomi.specs.declared.sources.SourceGenerator.{SourceGenerator}
 use Rattle.catsvomi.specs.declared.sources.SourceGenerator.TheVariants.{Aes, Playback}

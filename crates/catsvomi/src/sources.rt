@@ -1,6 +1,7 @@
 //! What a line gives for a generator of keystream: a key or a recording.
+use aes_generator::AesGenerator;
 use field::Block;
-use generator::{AesGenerator, Generator, Key, Nonce};
+use generator::{Generator, Key, Nonce};
 use recording::Playback;
 use units::Refusal;
 

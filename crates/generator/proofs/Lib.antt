@@ -1,4 +1,3 @@
 pub mod KeyLaws
 pub mod KeystreamLaws
 pub mod PairLaws
-pub mod AesGeneratorLaws

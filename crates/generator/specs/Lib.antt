@@ -1,5 +1,4 @@
 pub mod Generators
-pub mod AesGenerator
 pub mod Keys
 pub mod Keystreams
 pub mod Pairs

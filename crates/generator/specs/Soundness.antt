@@ -1,13 +1,10 @@
--- That what the generators here mean is sound, as each of them has to show.
+-- That what a pair of generators means is sound, as each generator has to show.
 use Rattle.std.proofs.Common.{◌≡◌, length, ◌∙◌, arith}
 use Rattle.units.proofs.SumLaws.{length-sums, Octets-sums}
-use Rattle.aes.specs.declared.cipher.Aes256.{Aes256}
-use Rattle.aes.proofs.BlockLaws.{encrypted_octets, encrypted_sixteen}
-use Rattle.generator.specs.AesGenerator.{aes_meaning, counter_block}
 use Rattle.generator.specs.Generators.{Meaning, Sound}
 use Rattle.generator.specs.Pairs.{both}
 
--- a pair of two that are
+-- a pair of two that are sound
 pub both_sound : (a b : Meaning) → Sound a → Sound b → Sound (both a b)
 both_sound a b s t =
     record {
@@ -17,13 +14,4 @@ both_sound a b s t =
           let q : length (b.block n i) ≡ 16 = t.sixteen n i (omega arith) in
           length-sums (a.block n i) (b.block n i) (omega arith) ∙ p;
       octets = λ n i h. Octets-sums (a.block n i) (b.block n i) (s.octets n i (omega arith)) (t.octets n i (omega arith));
-    }
-
--- AES under a key
-pub aes_sound : (aes : Aes256) → Sound (aes_meaning aes.key)
-aes_sound aes =
-    record {
-      near = λ n. omega arith;
-      sixteen = λ n i h. encrypted_sixteen aes (counter_block n i);
-      octets = λ n i h. encrypted_octets aes (counter_block n i);
     }

@@ -1,13 +1,11 @@
 //! Generators of keystream: what one promises, a pair of them, and the keystream that one gives.
 #![tactic(auto)]
 
-pub mod aes_generator;
 pub mod generators;
 pub mod keys;
 pub mod keystreams;
 pub mod pairs;
 
-pub use aes_generator::AesGenerator;
 pub use generators::{Generator, Nonce};
 pub use keys::Key;
 pub use keystreams::keystream;

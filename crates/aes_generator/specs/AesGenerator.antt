@@ -4,7 +4,7 @@ use Rattle.std.specs.List.{range_with_len}
 use Rattle.units.specs.Strings.{four}
 use Rattle.aes.specs.KeyExpansion.{aes256}
 use Rattle.generator.specs.Generators.{Meaning}
-use Rattle.generator.specs.declared.aes_generator.Batch.{Batch}
+use Rattle.aes_generator.specs.declared.Batch.{Batch}
 
 -- the block that is encrypted for an index: the nonce, and the index as four bytes
 abbrev pub counter_block : List ℕ → ℕ → List ℕ

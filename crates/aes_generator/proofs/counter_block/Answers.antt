@@ -1,7 +1,7 @@
 use Rattle.std.proofs.Common.{◌∙◌}
 use Rattle.units.specs.Strings.{four}
-use Rattle.generator.proofs.AesGeneratorLaws.{counter_written}
-use Rattle.generator.proofs.aes_generator.counter_block.Goals as goal
+use Rattle.aes_generator.proofs.AesGeneratorLaws.{counter_written}
+use Rattle.aes_generator.proofs.counter_block.Goals as goal
 
 pub returns : goal.returns
 unfolding four

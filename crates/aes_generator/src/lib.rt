@@ -1,12 +1,14 @@
 //! AES-256 as a generator: block `i` under a nonce is the encryption of the nonce and of `i` as four bytes, the most
 //! significant first.
-ghost use Rattle.std.specs.Prelude.{◌≡◌, ◌≤◌, ◌+◌, ◌^◌};
-ghost use Rattle.generator.specs.AesGenerator.{Right, counter_block};
+#![tactic(auto)]
 
-use super::generators::{Generator, Nonce, short};
-use super::keys::Key;
+ghost use Rattle.std.specs.Prelude.{◌≡◌, ◌≤◌, ◌+◌, ◌^◌};
+ghost use Rattle.aes_generator.specs.AesGenerator.{Right, counter_block};
+
 use aes::Aes256;
 use field::Block;
+use generator::generators::short;
+use generator::{Generator, Key, Nonce};
 use units::Refusal;
 
 /// How many blocks there are under each nonce.
@@ -45,8 +47,8 @@ impl AesGenerator {
 }
 
 impl Generator for AesGenerator {
-    ghost use Rattle.generator.specs.AesGenerator.{aes_meaning};
-    ghost use Rattle.generator.specs.Soundness.{aes_sound};
+    ghost use Rattle.aes_generator.specs.AesGenerator.{aes_meaning};
+    ghost use Rattle.aes_generator.specs.Soundness.{aes_sound};
 
     ghost meaning = { λ generator. aes_meaning generator.aes.key };
 

@@ -7,7 +7,7 @@ use Rattle.std.proofs.lemmas.Simd.{map-map}
 use Rattle.units.specs.Strings.{four}
 use Rattle.units.proofs.FillLaws.{filled, filled_all}
 use Rattle.aes.specs.KeyExpansion.{aes256}
-use Rattle.generator.specs.AesGenerator.{counter_block}
+use Rattle.aes_generator.specs.AesGenerator.{counter_block}
 
 pub counter_written :
     (n new last : List ℕ) (i : ℕ) → length new ≡ 12 → new ≡ n → last ≡ four i

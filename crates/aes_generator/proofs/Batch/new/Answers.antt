@@ -1,7 +1,7 @@
 use Rattle.std.proofs.Common.{rules, arith, length-set, ◌∙◌, refl}
 use Rattle.units.proofs.FillLaws.{filled_more, filled_none}
-use Rattle.generator.proofs.AesGeneratorLaws.{all_right, counter_from}
-use Rattle.generator.proofs.aes_generator.Batch.new.Goals as goal
+use Rattle.aes_generator.proofs.AesGeneratorLaws.{all_right, counter_from}
+use Rattle.aes_generator.proofs.Batch.new.Goals as goal
 
 pub loop-i-init : goal.loop-i-init
 loop-i-init c = (refl, filled_none (counter_from c.args.nonce.now.0 c.args.first))

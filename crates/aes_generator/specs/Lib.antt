@@ -1,0 +1,2 @@
+pub mod AesGenerator
+pub mod Soundness
