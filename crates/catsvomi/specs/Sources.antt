@@ -2,7 +2,7 @@
 use Rattle.generator.specs.Generators.{Meaning, Sound}
 use Rattle.aes_generator.specs.AesGenerator.{aes_meaning}
 use Rattle.aes_generator.specs.Soundness.{aes_sound}
-use Rattle.recording.specs.Playing.{played}
+use Rattle.playing.specs.Playing.{played}
 use Rattle.catsvomi.specs.declared.sources.SourceGenerator.{SourceGenerator}
 use Rattle.catsvomi.specs.declared.sources.SourceGenerator.TheVariants.{Aes, Playback}
 

@@ -2,7 +2,7 @@
 use aes_generator::AesGenerator;
 use field::Block;
 use generator::{Generator, Key, Nonce};
-use recording::Playback;
+use playing::Playback;
 use units::Refusal;
 
 /// What a generator is made of.

@@ -1,4 +1,3 @@
 pub mod CheckingLaws
-pub mod PlayingLaws
 pub mod ReadingLaws
 pub mod RecordLaws

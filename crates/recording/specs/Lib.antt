@@ -1,4 +1,3 @@
 pub mod Checking
-pub mod Playing
 pub mod Reading
 pub mod Records

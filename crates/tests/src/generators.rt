@@ -3,14 +3,14 @@ ghost use Rattle.std.specs.Prelude.{◌≡◌, length};
 ghost use Rattle.generator.specs.Keystreams.{answer, written};
 ghost use Rattle.generator.specs.Pairs.{both};
 ghost use Rattle.aes_generator.specs.AesGenerator.{aes_meaning};
-ghost use Rattle.recording.specs.Playing.{played};
+ghost use Rattle.playing.specs.Playing.{played};
 
 #[cfg(test)]
 mod tests {
     use aes_generator::AesGenerator;
     use field::Block;
     use generator::{Key, Nonce, Pair, keystream};
-    use recording::Playback;
+    use playing::Playback;
     use std::test::Fail;
     use units::{Layer, Reason, Refusal};
 

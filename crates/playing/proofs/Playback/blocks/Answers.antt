@@ -1,7 +1,7 @@
 use Rattle.std.proofs.Common.{◌≡◌, List, ℕ, ap, ◌∙◌, sym}
-use Rattle.recording.specs.Playing.{blocks_under, readable}
-use Rattle.recording.proofs.PlayingLaws.{same_nonce}
-use Rattle.recording.proofs.playing.Playback.blocks.Goals as goal
+use Rattle.playing.specs.Playing.{blocks_under, readable}
+use Rattle.playing.proofs.PlayingLaws.{same_nonce}
+use Rattle.playing.proofs.Playback.blocks.Goals as goal
 
 pub returns-clause-value : goal.returns-clause-value
 returns-clause-value c =

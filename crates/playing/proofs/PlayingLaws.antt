@@ -7,12 +7,12 @@ use Rattle.std.proofs.lemmas.Bool.Decides.{nat_tests}
 use Rattle.units.specs.Strings.{Octets, same, two}
 use Rattle.units.proofs.StringLaws.{Octets-append_front, Octets-append_rest, same_tells}
 use Rattle.generator.specs.Generators.{Sound}
-use Rattle.recording.specs.Playing.{PlaybackStands, blocks_under, played, readable}
 use Rattle.recording.specs.Reading.{ahead, placed, records, up_to}
 use Rattle.recording.specs.Records.{Entry, Begins, first, keystream, keystream_mark, remark, written}
 use Rattle.recording.proofs.CheckingLaws.{run_records}
 use Rattle.recording.proofs.ReadingLaws.{Found}
 use Rattle.recording.proofs.RecordLaws.{first_there}
+use Rattle.playing.specs.Playing.{PlaybackStands, blocks_under, played, readable}
 
 -- ---- the blocks are sound
 

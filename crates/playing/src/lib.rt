@@ -1,14 +1,15 @@
 //! Playing a recording back: a generator that gives the keystream that was recorded.
+#![tactic(auto)]
+
 ghost use Rattle.std.specs.Prelude.{◌≡◌};
 ghost use Rattle.std.specs.Option.{ForSome};
 ghost use Rattle.generator.specs.Generators.{Sound};
-ghost use Rattle.recording.specs.Playing.{PlaybackStands, blocks_under, played, readable};
+ghost use Rattle.playing.specs.Playing.{PlaybackStands, blocks_under, played, readable};
 
-use super::reading::Reader;
-use super::records::Record;
 use field::Block;
 use generator::generators::short;
 use generator::{Generator, Nonce};
+use recording::{Reader, Record};
 use units::Refusal;
 
 /// A recording played back. Under a nonce it has the blocks of the first keystream record with that nonce, among the
