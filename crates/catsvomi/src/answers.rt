@@ -12,8 +12,16 @@ pub enum Answer {
     Block(Block),
     Bytes(Vec<u8>),
     Blocks(Vec<Block>),
+    Covered(Covered),
     Ok,
     Refused(Refusal),
+}
+
+/// A ciphertext and the tag that goes with it.
+#[derive(Drop)]
+pub struct Covered {
+    pub ciphertext: Vec<u8>,
+    pub tag: Vec<u8>,
 }
 
 impl Answer {
@@ -40,6 +48,7 @@ impl fmt::Display for Answer {
             Answer::Block(block) => write_bytes(f, &block.to_bytes()),
             Answer::Bytes(bytes) => write_bytes(f, bytes.as_slice()),
             Answer::Blocks(blocks) => write_blocks(f, blocks.as_slice()),
+            Answer::Covered(covered) => write_covered(f, covered),
             Answer::Ok => f.write_str("ok"),
             Answer::Refused(refusal) => write!(f, "{refusal}"),
         }
@@ -60,6 +69,13 @@ fn write_blocks<W: fmt::Write>(f: &mut fmt::Formatter<W>, blocks: &[Block]) -> f
         write_bytes(f, &block.to_bytes())?;
     }
     Ok(())
+}
+
+/// A ciphertext, a space and a tag.
+fn write_covered<W: fmt::Write>(f: &mut fmt::Formatter<W>, covered: &Covered) -> fmt::Result {
+    write_bytes(f, covered.ciphertext.as_slice())?;
+    f.write_str(" ")?;
+    write_bytes(f, covered.tag.as_slice())
 }
 
 const HELP: &str = "catsvomi reads commands, one a line: a word, and then fields as key=value.
@@ -88,4 +104,22 @@ error: line N: and why, and the run goes on. An account comes at the end.
   blocks key=TEXT nonce=HEX first=INDEX count=COUNT
       COUNT blocks of keystream, at most 65536, under a nonce of 12 bytes, from an
       index on. With recording=HEX in the place of key=, those of a recording;
-      with_key=TEXT or with_recording=HEX besides makes a pair of the two.";
+      with_key=TEXT or with_recording=HEX besides makes a pair of the two.
+  nea5 FROM bits=BITS data=HEX
+      The ciphertext of a message, data, or the message of a ciphertext.
+  nia5 FROM t=SIZE bits=BITS data=HEX
+      The tag of SIZE bytes over data.
+  nca5 FROM t=SIZE aad_bits=BITS aad=HEX bits=BITS data=HEX
+      The ciphertext of a message, data, a space, and the tag of SIZE bytes over
+      the AAD and the ciphertext.
+  nca5-open FROM t=SIZE aad_bits=BITS aad=HEX bits=BITS data=HEX tag=HEX
+      The message of a ciphertext, data, whose tag is right.
+  In the last four FROM stands for
+      key=TEXT count=COUNT bearer=BEARER direction=DIRECTION extra=HEX
+  with key= replaced or paired as for blocks. COUNT is 0 to 4294967295; BEARER,
+  DIRECTION and SIZE are 0 to 255, and what is out of range is refused, as are
+  bytes that the bits do not fill; extra is six bytes or -. Three more fields
+  may be given, each 0 to 65536: work=LENGTH of the work area, else 64;
+  room=LENGTH of the buffer for the result, of nca5 for the ciphertext; and
+  tag_room=LENGTH of the buffer for the tag of nca5. Without them each buffer is
+  of the right size.";

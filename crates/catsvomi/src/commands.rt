@@ -3,7 +3,7 @@ use super::answers::Answer;
 use super::errors::Unreadable;
 use super::fields::Fields;
 use super::listings::Listing;
-use super::{field_commands, generator_commands};
+use super::{cover_commands, field_commands, generator_commands};
 use std::alloc::Global;
 use std::fmt;
 
@@ -17,6 +17,10 @@ pub enum Command {
     Aes256,
     Key,
     Blocks,
+    Nea5,
+    Nia5,
+    Nca5,
+    Nca5Open,
 }
 
 impl<'a> TryFrom<&'a str> for Command {
@@ -32,6 +36,10 @@ impl<'a> TryFrom<&'a str> for Command {
             "aes256" => Ok(Command::Aes256),
             "key" => Ok(Command::Key),
             "blocks" => Ok(Command::Blocks),
+            "nea5" => Ok(Command::Nea5),
+            "nia5" => Ok(Command::Nia5),
+            "nca5" => Ok(Command::Nca5),
+            "nca5-open" => Ok(Command::Nca5Open),
             _ => Err(Unreadable::UnknownCommand(word)),
         }
     }
@@ -49,6 +57,10 @@ impl fmt::Display for Command {
             Command::Aes256 => "aes256",
             Command::Key => "key",
             Command::Blocks => "blocks",
+            Command::Nea5 => "nea5",
+            Command::Nia5 => "nia5",
+            Command::Nca5 => "nca5",
+            Command::Nca5Open => "nca5-open",
         })
     }
 }
@@ -81,6 +93,12 @@ impl Command {
             Command::Key => Ok(Answer::of(generator_commands::key(fields)?.map(|()| Answer::Ok))),
             Command::Blocks => Ok(Answer::of(generator_commands::blocks(fields)?.map(
                 Answer::Blocks,
+            ))),
+            Command::Nea5 => Ok(Answer::of(cover_commands::nea5(fields)?.map(Answer::Bytes))),
+            Command::Nia5 => Ok(Answer::of(cover_commands::nia5(fields)?.map(Answer::Bytes))),
+            Command::Nca5 => Ok(Answer::of(cover_commands::nca5(fields)?.map(Answer::Covered))),
+            Command::Nca5Open => Ok(Answer::of(cover_commands::nca5_open(fields)?.map(
+                Answer::Bytes,
             ))),
         }
     }

@@ -25,6 +25,8 @@ pub enum Unreadable<'a> {
     NoBlock(&'static str),
     #[error("'{0}=' is not a nonce of 12 bytes")]
     NoNonce(&'static str),
+    #[error("'{0}=' is not an EXTRA_IV of 6 bytes, or - for none")]
+    NoExtraIv(&'static str),
     #[error("'{key}=' is not a decimal number from {least} to {most}")]
     NoNumber {
         key: &'static str,

@@ -1,15 +1,19 @@
 //! A command line taken apart: a word and then fields as `key=value`.
 use super::errors::Unreadable;
-use super::sources::Source;
+use super::sources::{Source, Sources};
 use field::Block;
 use generator::{Key, Nonce};
 use hexadecimal::Fault;
 use indexmap::IndexMap;
+use nonces::ExtraIv;
 use std::alloc::{AllocError, Global};
 use std::num::ParseIntError;
 use std::ops::RangeInclusive;
 use std::str::{FromStr, SplitWhitespace};
 use units::{BitString, Bits, Refusal};
+
+/// The most bytes of a buffer whose size a field names.
+const MOST_ROOM: u32 = 65_536;
 
 /// The fields of a command that have not been taken yet, by their keys and in the order of the line.
 #[derive(Drop)]
@@ -69,6 +73,22 @@ impl<'a> Fields<'a> {
         }
     }
 
+    /// Takes a field of the six bytes of EXTRA_IV, or of none.
+    pub fn extra_iv(&mut self, key: &'static str) -> Result<Option<ExtraIv>, Unreadable<'a>> {
+        match self.bytes(key)?.as_slice() {
+            [] => Ok(None),
+            [b0, b1, b2, b3, b4, b5] => Ok(Some(ExtraIv {
+                b0: *b0,
+                b1: *b1,
+                b2: *b2,
+                b3: *b3,
+                b4: *b4,
+                b5: *b5,
+            })),
+            _ => Err(Unreadable::NoExtraIv(key)),
+        }
+    }
+
     /// Takes a key text, and answers its key or why it is none.
     pub fn key(&mut self, key: &'static str) -> Result<Result<Key, Refusal>, Unreadable<'a>> {
         Ok(Key::from_text(self.take(key)?))
@@ -99,6 +119,14 @@ impl<'a> Fields<'a> {
         Ok(Ok(None))
     }
 
+    /// Takes what a generator is made of: a source, and a second one if it is there. Answers why there is none if a key
+    /// text is none.
+    pub fn sources(&mut self) -> Result<Result<Sources, Refusal>, Unreadable<'a>> {
+        let first = self.source("key", "recording")?;
+        let second = self.optional_source("with_key", "with_recording")?;
+        Ok(Sources::new(first, second))
+    }
+
     /// Takes a field that is a decimal number within a range.
     pub fn number(
         &mut self,
@@ -116,6 +144,15 @@ impl<'a> Fields<'a> {
         }
     }
 
+    /// Takes a field that is a decimal number of up to 8 bits.
+    pub fn byte(&mut self, key: &'static str) -> Result<u8, Unreadable<'a>> {
+        decimal(self.take(key)?).ok_or(Unreadable::NoNumber {
+            key,
+            least: 0,
+            most: u64::from(u8::MAX),
+        })
+    }
+
     /// Takes a field that is a decimal number of up to 64 bits.
     pub fn index(&mut self, key: &'static str) -> Result<u64, Unreadable<'a>> {
         decimal(self.take(key)?).ok_or(Unreadable::NoNumber {
@@ -131,11 +168,21 @@ impl<'a> Fields<'a> {
         bits_key: &'static str,
         key: &'static str,
     ) -> Result<BitField, Unreadable<'a>> {
-        let bits = Bits(self.number(bits_key, 0..=u32::MAX)?);
-        let bytes = self.bytes(key)?;
-        if bytes.len() != bits.bytes().0 {
+        let string = self.any_bit_string(bits_key, key)?;
+        if string.byte_length() != string.bits.bytes().0 {
             return Err(Unreadable::NotFilled { key, bits_key });
         }
+        Ok(string)
+    }
+
+    /// Takes a number of bits and any number of bytes, whether the bits fill them or not.
+    pub fn any_bit_string(
+        &mut self,
+        bits_key: &'static str,
+        key: &'static str,
+    ) -> Result<BitField, Unreadable<'a>> {
+        let bits = Bits(self.number(bits_key, 0..=u32::MAX)?);
+        let bytes = self.bytes(key)?;
         Ok(BitField { bits, bytes })
     }
 
@@ -156,6 +203,15 @@ impl<'a> Fields<'a> {
     /// A buffer of so many bytes for an answer.
     pub fn buffer(&self, count: usize) -> Result<Vec<u8>, Unreadable<'a>> {
         Ok(Vec::from_elem(self.heap, 0, count)?)
+    }
+
+    /// A buffer of as many bytes as a field says, or of so many where that field is not there.
+    pub fn room(&mut self, key: &'static str, otherwise: usize) -> Result<Vec<u8>, Unreadable<'a>> {
+        if !self.has(key) {
+            return self.buffer(otherwise);
+        }
+        let count = self.number(key, 0..=MOST_ROOM)?;
+        self.buffer(count as usize)
     }
 
     /// A buffer of so many blocks for an answer.
@@ -188,6 +244,11 @@ pub struct BitField {
 }
 
 impl BitField {
+    /// How many bytes there are, whether the bits fill them or not.
+    pub fn byte_length(&self) -> usize {
+        self.bytes.len()
+    }
+
     pub fn as_bit_string(&self) -> BitString<'_> {
         BitString {
             bits: self.bits,

@@ -1,10 +1,10 @@
 //! The commands of AES-256 and of the generators: encryptions, keys and keystream.
 use super::errors::Unreadable;
 use super::fields::Fields;
-use super::sources::Source;
+use super::sources::Sources;
 use aes::Aes256;
 use field::Block;
-use generator::{Key, Nonce, Pair, keystream};
+use generator::{Key, Nonce, keystream};
 use units::Refusal;
 
 /// The most blocks that are asked for at a time.
@@ -30,30 +30,22 @@ pub fn key<'a>(fields: &mut Fields<'a>) -> Result<Result<(), Refusal>, Unreadabl
 
 /// Keystream of a key, of a recording, or of a pair of two such.
 pub fn blocks<'a>(fields: &mut Fields<'a>) -> Result<Result<Vec<Block>, Refusal>, Unreadable<'a>> {
-    let source = fields.source("key", "recording")?;
-    let with = fields.optional_source("with_key", "with_recording")?;
+    let sources = fields.sources()?;
     let nonce = fields.nonce("nonce")?;
     let first = fields.index("first")?;
     let count = fields.number("count", 0..=MOST_BLOCKS)?;
     let mut out = fields.block_buffer(count as usize)?;
-    Ok(fill(source, with, &nonce, first, out.as_mut_slice()).map(|()| out))
+    Ok(fill(sources, &nonce, first, out.as_mut_slice()).map(|()| out))
 }
 
 /// Fills a buffer with keystream from an index on.
 fn fill(
-    source: Result<Source, Refusal>,
-    with: Result<Option<Source>, Refusal>,
+    sources: Result<Sources, Refusal>,
     nonce: &Nonce,
     first: u64,
     out: &mut [Block],
 ) -> Result<(), Refusal> {
-    let source = source?;
-    let mut generator = source.generator();
-    match with? {
-        None => keystream(&mut generator, nonce, first, out),
-        Some(with) => {
-            let mut pair = Pair::new(generator, with.generator());
-            keystream(&mut pair, nonce, first, out)
-        }
-    }
+    let sources = sources?;
+    let mut generator = sources.generator();
+    keystream(&mut generator, nonce, first, out)
 }

@@ -5,6 +5,7 @@
 mod accounts;
 mod answers;
 mod commands;
+mod cover_commands;
 mod errors;
 mod field_commands;
 mod fields;
