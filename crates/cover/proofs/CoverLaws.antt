@@ -12,8 +12,8 @@ use Rattle.field.proofs.TagLaws.{tag_stands}
 use Rattle.generator.specs.Generators.{Meaning}
 use Rattle.cover.specs.Answers.{outcome}
 use Rattle.cover.specs.Keystream.{covered}
-use Rattle.cover.specs.Nca5.{CoveredOpens, Nca5Stands, TwoTags, ciphertext_of, instance_nonce, open_refusal, stream_nonce, tag_of}
-use Rattle.cover.specs.Nea5.{Nea5Twice, nea5_nonce, nea5_refusal}
+use Rattle.cover.specs.Combined.{CoveredOpens, Nca5Stands, TwoTags, ciphertext_of, instance_nonce, open_refusal, stream_nonce, tag_of}
+use Rattle.cover.specs.Encryption.{Nea5Twice, nea5_nonce, nea5_refusal}
 use Rattle.cover.specs.Tags.{field_value, key_h, key_p, key_q, tag_under}
 use Rattle.cover.proofs.KeystreamLaws.{clear-covered, covered_twice, length-covered}
 

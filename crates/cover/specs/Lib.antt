@@ -2,6 +2,6 @@ pub mod WorkArea
 pub mod Keystream
 pub mod Tags
 pub mod Answers
-pub mod Nea5
-pub mod Nia5
-pub mod Nca5
+pub mod Encryption
+pub mod Integrity
+pub mod Combined

@@ -4,10 +4,14 @@
 //! caller lends it a work area of 64 bytes, which is zero afterwards on every way out.
 #![tactic(auto)]
 
+pub mod combined;
+pub mod encryption;
+pub mod integrity;
 mod keystream;
-pub mod nca5;
-pub mod nea5;
-pub mod nia5;
 mod tags;
 mod tests;
 mod work_area;
+
+pub use combined::{nca5_cover, nca5_open};
+pub use encryption::nea5;
+pub use integrity::nia5;

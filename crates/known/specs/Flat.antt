@@ -5,8 +5,8 @@ use Rattle.units.specs.declared.refusals.Refusal.{Refusal}
 use Rattle.generator.specs.Generators.{Meaning, Sound}
 use Rattle.nonces.specs.declared.Parameters.{Parameters}
 use Rattle.cover.specs.Answers.{Written}
-use Rattle.cover.specs.Nca5.{Covering, nca5_cover, nca5_open}
-use Rattle.cover.specs.Nia5.{nia5}
+use Rattle.cover.specs.Combined.{Covering, nca5_cover, nca5_open}
+use Rattle.cover.specs.Integrity.{nia5}
 
 -- 01, fourteen 00, C2
 abbrev pub e_bytes : List ℕ

@@ -5,9 +5,9 @@ use Rattle.units.specs.Strings.{same}
 use Rattle.polynomials.specs.Field.{one, pdot}
 use Rattle.field.specs.Blocks.{block_bytes, polynomial}
 use Rattle.nonces.specs.Nonces.{nonce}
-use Rattle.cover.specs.Nca5.{instance_nonce, stream_nonce}
-use Rattle.cover.specs.Nea5.{nea5_nonce}
-use Rattle.cover.specs.Nia5.{nia5_nonce}
+use Rattle.cover.specs.Combined.{instance_nonce, stream_nonce}
+use Rattle.cover.specs.Encryption.{nea5_nonce}
+use Rattle.cover.specs.Integrity.{nia5_nonce}
 use Rattle.known.specs.Flat.{e_bytes, flat_cover, flat_nia5, flat_open, parameters}
 
 -- a value as a definition gives it, beside the value that is known

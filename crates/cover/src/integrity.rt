@@ -2,7 +2,7 @@
 ghost use Rattle.std.specs.Prelude.{◌≡◌, length};
 ghost use Rattle.generator.specs.Generators.{Same};
 ghost use Rattle.cover.specs.Answers.{outcome};
-ghost use Rattle.cover.specs.Nia5.{nia5};
+ghost use Rattle.cover.specs.Integrity.{nia5};
 ghost use Rattle.cover.specs.WorkArea.{wiped};
 
 use super::tags::{KEYS, put_tag};

@@ -2,7 +2,7 @@ use Rattle.std.proofs.Common.{◌≡◌, ◌≤◌, ◌∙◌, rules}
 use Rattle.units.specs.Lengths.{begun}
 use Rattle.cover.specs.Keystream.{covered}
 use Rattle.cover.proofs.StreamLaws.{covered_same}
-use Rattle.cover.proofs.nea5.nea5.Goals as goal
+use Rattle.cover.proofs.encryption.nea5.Goals as goal
 
 pub returns-clause-outcome : goal.returns-clause-outcome
 returns-clause-outcome g c =

@@ -2,7 +2,7 @@
 ghost use Rattle.std.specs.Prelude.{◌≡◌, length};
 ghost use Rattle.generator.specs.Generators.{Same};
 ghost use Rattle.cover.specs.Answers.{outcome};
-ghost use Rattle.cover.specs.Nea5.{Nea5Twice, nea5};
+ghost use Rattle.cover.specs.Encryption.{Nea5Twice, nea5};
 ghost use Rattle.cover.specs.WorkArea.{wiped};
 
 use super::keystream::cover;

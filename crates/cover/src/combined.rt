@@ -2,7 +2,7 @@
 ghost use Rattle.std.specs.Prelude.{◌≡◌, length};
 ghost use Rattle.generator.specs.Generators.{Same};
 ghost use Rattle.cover.specs.Answers.{outcome};
-ghost use Rattle.cover.specs.Nca5.{Nca5Stands, covering, nca5_cover, nca5_open};
+ghost use Rattle.cover.specs.Combined.{Nca5Stands, covering, nca5_cover, nca5_open};
 ghost use Rattle.cover.specs.WorkArea.{wiped};
 
 use super::keystream::cover;

@@ -1,7 +1,7 @@
 use Rattle.std.proofs.Common.{◌≡◌, ◌≤◌, [], length, ◌∙◌, rules}
 use Rattle.cover.specs.Tags.{tag_under}
 use Rattle.cover.proofs.TagLaws.{tag_same}
-use Rattle.cover.proofs.nia5.nia5.Goals as goal
+use Rattle.cover.proofs.integrity.nia5.Goals as goal
 
 pub returns-clause-outcome : goal.returns-clause-outcome
 returns-clause-outcome g c =
