@@ -1,21 +1,25 @@
 -- What holds of NEA5 and NCA5.
-use Rattle.std.proofs.Common.{◌≡◌, ℕ, min, ◌≤◌, true, List, length, None, Ok, refl, ap, ◌∙◌, arith, length-take}
+use Rattle.std.proofs.Common.{◌≡◌, ℕ, min, ◌≤◌, true, List, length, take, None, Ok, refl, ap, ◌∙◌, arith, length-take}
 use Rattle.std.proofs.lemmas.Bool.Decides.{nat_tests}
 use Rattle.std.specs.Simd.Lanes.{digits_l}
 use Rattle.units.specs.Lengths.{begun, filled}
 use Rattle.units.specs.Strings.{same}
 use Rattle.units.proofs.StringLaws.{same_tells}
-use Rattle.field.specs.Blocks.{block_bytes}
-use Rattle.field.specs.Tags.{tag, whole_tag}
+use Rattle.units.specs.Spare.{cleared}
+use Rattle.units.specs.Sums.{◌⊕◌}
+use Rattle.polynomials.specs.Field.{pdot}
+use Rattle.field.specs.Blocks.{block_bytes, blocks}
+use Rattle.field.specs.Folds.{fold, folded}
+use Rattle.field.specs.Tags.{lengths, tag, whole_tag}
 use Rattle.field.proofs.BlockLaws.{length_digits}
 use Rattle.field.proofs.TagLaws.{tag_stands}
 use Rattle.generator.specs.Generators.{Meaning}
 use Rattle.cover.specs.Answers.{outcome}
 use Rattle.cover.specs.Keystream.{covered}
-use Rattle.cover.specs.Combined.{CoveredOpens, Nca5Stands, TwoTags, ciphertext_of, instance_nonce, open_refusal, stream_nonce, tag_of}
+use Rattle.cover.specs.Combined.{CoveredOpens, Nca5Stands, SpareIgnored, ciphertext_of, instance_nonce, open_refusal, stream_nonce, tag_of}
 use Rattle.cover.specs.Encryption.{Nea5Twice, nea5_nonce, nea5_refusal}
-use Rattle.cover.specs.Tags.{field_value, key_h, key_p, key_q, tag_under}
-use Rattle.cover.proofs.KeystreamLaws.{clear-covered, covered_twice, length-covered}
+use Rattle.cover.specs.Tags.{TwoTags, field_value, key_h, key_p, key_q, tag_under}
+use Rattle.cover.proofs.KeystreamLaws.{clear-covered, cleared_again, covered-cleared, covered_twice, length-covered}
 
 -- what NEA5 wrote is accepted again, and gives the input
 pub nea5_twice : Nea5Twice
@@ -56,9 +60,24 @@ covered_opens m work p t aad_bits aad bits message out tag_out buffer sound acce
 -- what holds of two tags of the field, with the blocks under the nonce as H, Q and P
 pub two_tags : TwoTags
 unfolding tag_under field_value
-two_tags m p t aad_bits aad aad' bits ciphertext ciphertext' =
-    let n = instance_nonce t p in
+two_tags m n t aad_bits aad aad' bits ciphertext ciphertext' =
     tag_stands (key_h m n) (key_q m n) (key_p m n) t aad_bits bits aad aad' ciphertext ciphertext'
 
+-- spare bits of what is folded make no difference
+fold-cleared : (h v n : ℕ) (xs : List ℕ) → fold h v n (cleared n xs) ≡ fold h v n xs
+unfolding fold
+fold-cleared h v n xs = ap (λ (l : List ℕ). folded h v (blocks l)) (cleared_again n xs)
+
+pub spare_ignored : SpareIgnored
+unfolding tag_under tag whole_tag
+spare_ignored =
+    record {
+      message = λ m p t bits message. covered-cleared m (stream_nonce t p) bits message;
+      aad = λ m p t aad_bits aad bits ciphertext.
+          let n = instance_nonce t p in
+          let h = key_h m n in
+          ap (λ (v : ℕ). take t (block_bytes (pdot (fold h v bits ciphertext ⊕ lengths bits aad_bits) (key_q m n) ⊕ key_p m n))) (fold-cleared h 0 aad_bits aad);
+    }
+
 pub nca5_stands : Nca5Stands
-nca5_stands = record { opens = covered_opens; tags = two_tags }
+nca5_stands = record { opens = covered_opens; tags = two_tags; spare = spare_ignored }

@@ -19,7 +19,7 @@ clear-cleared n xs =
     (λ i h. cleared_told n xs (cleared n xs) refl i ∙ cond-false (ltb i n) (bit_at xs i) 0 (le-ltb i n h))
 
 -- clearing again changes nothing
-cleared_again : (n : ℕ) (xs : List ℕ) → cleared n (cleared n xs) ≡ cleared n xs
+pub cleared_again : (n : ℕ) (xs : List ℕ) → cleared n (cleared n xs) ≡ cleared n xs
 cleared_again n xs = (same_tells (cleared n (cleared n xs)) (cleared n xs)).0 (clear-cleared n xs)
 
 -- what is added twice falls out
@@ -72,3 +72,12 @@ module _ (m : Meaning) (sound : Sound m) (n : List ℕ) where
 pub clear-covered : (m : Meaning) (n : List ℕ) (bits : ℕ) (text : List ℕ) → clear bits (covered m n bits text) ≡ true
 unfolding covered
 clear-covered m n bits text = clear-cleared bits (sums text (stream m n (begun bits)))
+
+-- spare bits of a text make no difference
+pub covered-cleared : (m : Meaning) (n : List ℕ) (bits : ℕ) (text : List ℕ) → covered m n bits (cleared bits text) ≡ covered m n bits text
+unfolding covered
+covered-cleared m n bits text =
+    let keys = stream m n (begun bits) in
+    cleared-sums bits (cleared bits text) keys
+    ∙ ap (λ (l : List ℕ). sums l (cleared bits keys)) (cleared_again bits text)
+    ∙ sym (cleared-sums bits text keys)

@@ -3,8 +3,7 @@ use Rattle.std.specs.Prelude.{◌≡◌, ℕ, ◌||◌, false, true, not, List, 
 use Rattle.units.specs.Lengths.{begun, filled}
 use Rattle.units.specs.Refusals.{◌⊳◌}
 use Rattle.units.specs.Spare.{clear, cleared}
-use Rattle.units.specs.Strings.{Octets, same}
-use Rattle.units.specs.Sums.{sums}
+use Rattle.units.specs.Strings.{same}
 use Rattle.units.specs.declared.refusals.Reason.TheVariants.{WorkArea, InputBytes, OutputBytes, SpareBits, WrongTag}
 use Rattle.units.specs.declared.refusals.Refusal.{Refusal}
 use Rattle.generator.specs.Generators.{Meaning, Sound}
@@ -12,7 +11,7 @@ use Rattle.nonces.specs.Nonces.{nonce, nonce_refusal}
 use Rattle.nonces.specs.declared.Parameters.{Parameters}
 use Rattle.cover.specs.Answers.{Written, refused_here, too_short, unlike, written}
 use Rattle.cover.specs.Keystream.{covered}
-use Rattle.cover.specs.Tags.{field_value, tag_under}
+use Rattle.cover.specs.Tags.{TwoTags, tag_under}
 
 -- the nonce with the instance bit, for H, Q and P
 abbrev pub instance_nonce : ℕ → Parameters → List ℕ
@@ -78,8 +77,8 @@ open_refusal m work p t aad_bits aad bits ciphertext tag message =
     ⊳ refused_here ((unlike (length aad) (filled aad_bits) || unlike (length ciphertext) (filled bits)) || unlike (length tag) t) InputBytes
     ⊳ refused_here (unlike (length message) (filled bits)) OutputBytes
     ⊳ refused_here (not (clear bits ciphertext)) SpareBits
-    ⊳ (too_short_for m p t bits
-    ⊳ wrong_tag m p t aad_bits aad bits ciphertext tag)
+    ⊳ too_short_for m p t bits
+    ⊳ wrong_tag m p t aad_bits aad bits ciphertext tag
 
 -- the whole call that opens
 abbrev pub nca5_open : Meaning → ℕ → Parameters → ℕ → ℕ → List ℕ → ℕ → List ℕ → List ℕ → List ℕ → Written
@@ -96,21 +95,13 @@ CoveredOpens =
     → nca5_open m work p t aad_bits aad bits (nca5_cover m work p t aad_bits aad bits message ciphertext tag).ciphertext (nca5_cover m work p t aad_bits aad bits message ciphertext tag).tag buffer
     ≡ record { answer = Ok tt; output = cleared bits message }
 
--- of two ciphertexts and AADs of equal lengths under one nonce, the sum of the tags is the first t bytes of the field value of
--- their difference
-abbrev pub TwoTags : Type 0
-TwoTags =
-    (m : Meaning) (p : Parameters) (t aad_bits : ℕ) (aad aad' : List ℕ) (bits : ℕ) (ciphertext ciphertext' : List ℕ)
-    → length aad ≡ length aad'
-    → length ciphertext ≡ length ciphertext'
-    → Octets aad
-    → Octets aad'
-    → Octets ciphertext
-    → Octets ciphertext'
-    → sums (tag_of m p t aad_bits aad bits ciphertext) (tag_of m p t aad_bits aad' bits ciphertext')
-    ≡ field_value m (instance_nonce t p) t aad_bits (sums aad aad') bits (sums ciphertext ciphertext')
+-- the spare bits of AAD and message make no difference
+pub record SpareIgnored : Type 0 where
+  pub message : (m : Meaning) (p : Parameters) (t bits : ℕ) (message : List ℕ) → ciphertext_of m p t bits (cleared bits message) ≡ ciphertext_of m p t bits message
+  pub aad : (m : Meaning) (p : Parameters) (t aad_bits : ℕ) (aad : List ℕ) (bits : ℕ) (ciphertext : List ℕ) → tag_of m p t aad_bits (cleared aad_bits aad) bits ciphertext ≡ tag_of m p t aad_bits aad bits ciphertext
 
 -- what holds of NCA5
 pub record Nca5Stands : Type 0 where
   pub opens : CoveredOpens
   pub tags : TwoTags
+  pub spare : SpareIgnored

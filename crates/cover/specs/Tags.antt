@@ -1,5 +1,7 @@
 -- The tag under a nonce.
-use Rattle.std.specs.Prelude.{ℕ, List, take}
+use Rattle.std.specs.Prelude.{◌≡◌, ℕ, List, length, take}
+use Rattle.units.specs.Strings.{Octets}
+use Rattle.units.specs.Sums.{sums}
 use Rattle.polynomials.specs.Field.{pdot}
 use Rattle.field.specs.Blocks.{block_bytes, polynomial}
 use Rattle.field.specs.Folds.{fold}
@@ -24,3 +26,17 @@ tag_under m n t aad_bits aad bits ciphertext = tag (key_h m n) (key_q m n) (key_
 unfoldable pub field_value : Meaning → List ℕ → ℕ → ℕ → List ℕ → ℕ → List ℕ → List ℕ
 field_value m n t aad_bits aad bits ciphertext =
     take t (block_bytes (pdot (fold (key_h m n) (fold (key_h m n) 0 aad_bits aad) bits ciphertext) (key_q m n)))
+
+-- of two ciphertexts and AADs of equal lengths under one nonce, the sum of the tags is the first t bytes of the field value of
+-- their difference
+abbrev pub TwoTags : Type 0
+TwoTags =
+    (m : Meaning) (n : List ℕ) (t aad_bits : ℕ) (aad aad' : List ℕ) (bits : ℕ) (ciphertext ciphertext' : List ℕ)
+    → length aad ≡ length aad'
+    → length ciphertext ≡ length ciphertext'
+    → Octets aad
+    → Octets aad'
+    → Octets ciphertext
+    → Octets ciphertext'
+    → sums (tag_under m n t aad_bits aad bits ciphertext) (tag_under m n t aad_bits aad' bits ciphertext')
+    ≡ field_value m n t aad_bits (sums aad aad') bits (sums ciphertext ciphertext')

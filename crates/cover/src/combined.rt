@@ -6,8 +6,8 @@ ghost use Rattle.cover.specs.Combined.{Nca5Stands, covering, nca5_cover, nca5_op
 ghost use Rattle.cover.specs.WorkArea.{wiped};
 
 use super::keystream::cover;
+use super::refusing::{refuse_if, refuse_short, unfilled};
 use super::tags::{KEYS, put_tag};
-use super::tests::{refuse_if, refuse_short, unfilled};
 use super::work_area::{LENGTH, WorkArea};
 use generator::Generator;
 use nonces::Parameters;
@@ -61,7 +61,7 @@ pub fn nca5_cover<G: Generator>(
 }
 
 /// Writes the message of a ciphertext, if the tag of `tag_size` bytes is that of AAD and ciphertext. The whole tag is
-/// compared before anything is written.
+/// compared before a byte of the message is written.
 ///
 /// The work area is zero afterwards, whatever the answer. A refusal leaves the place for the message as it was.
 #[tactic(auto, using(crate::proofs::CoverLaws::nca5_stands))]

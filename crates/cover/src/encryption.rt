@@ -6,13 +6,14 @@ ghost use Rattle.cover.specs.Encryption.{Nea5Twice, nea5};
 ghost use Rattle.cover.specs.WorkArea.{wiped};
 
 use super::keystream::cover;
-use super::tests::{refuse_if, refuse_short, unfilled};
+use super::refusing::{refuse_if, refuse_short, unfilled};
 use super::work_area::{LENGTH, WorkArea};
 use generator::Generator;
 use nonces::Parameters;
 use units::{BitString, Bits, Reason, Refusal};
 
-/// Writes the input plus the keystream, with the spare bits cleared. The same call gives the input back.
+/// Writes the input plus the keystream, with the spare bits cleared. The same call on what it wrote gives the input
+/// back, its spare bits cleared.
 ///
 /// The work area is zero afterwards, whatever the answer. A refusal leaves the output as it was.
 #[tactic(auto, using(crate::proofs::CoverLaws::nea5_twice))]

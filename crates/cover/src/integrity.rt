@@ -3,10 +3,11 @@ ghost use Rattle.std.specs.Prelude.{◌≡◌, length};
 ghost use Rattle.generator.specs.Generators.{Same};
 ghost use Rattle.cover.specs.Answers.{outcome};
 ghost use Rattle.cover.specs.Integrity.{nia5};
+ghost use Rattle.cover.specs.Tags.{TwoTags};
 ghost use Rattle.cover.specs.WorkArea.{wiped};
 
+use super::refusing::{refuse_if, refuse_short, unfilled};
 use super::tags::{KEYS, put_tag};
-use super::tests::{refuse_if, refuse_short, unfilled};
 use super::work_area::{LENGTH, WorkArea};
 use generator::Generator;
 use nonces::Parameters;
@@ -21,6 +22,7 @@ const NOTHING: BitString<'static> = BitString {
 /// Writes the tag of a text, of `tag_size` bytes. Comparing it with another is left to the caller.
 ///
 /// The work area is zero afterwards, whatever the answer. A refusal leaves the place for the tag as it was.
+#[tactic(auto, using(crate::proofs::CoverLaws::two_tags))]
 pub fn nia5<G: Generator>(
     generator: &mut G,
     work: &mut [u8],
@@ -32,6 +34,7 @@ pub fn nia5<G: Generator>(
     ensures outcome { outcome result tag.new ≡ nia5 (G.meaning generator.old) (length work.old) parameters.now tag_size text.entry.bits.0 text.entry.bytes.now tag.old }
     ensures work { work.new ≡ wiped work.old }
     ensures same { Same (G.meaning generator.old) (G.meaning generator.new) }
+    ensures tags { TwoTags }
 {
     let mut area = WorkArea::new(work);
     refuse_if(area.len() != LENGTH, Reason::WorkArea)?;

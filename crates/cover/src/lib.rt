@@ -1,15 +1,15 @@
 //! The cover: NEA5, NIA5 and NCA5 over any generator of keystream.
 //!
-//! A call tests what it is given first, in the order of the refusals' numbers, and writes only when nothing is refused. The
-//! caller lends it a work area of 64 bytes, which is zero afterwards on every way out.
+//! A call tests what it is given first, in the order of the refusals' numbers, and writes to an output only when nothing is
+//! refused. The caller lends it a work area of 64 bytes, which is zero afterwards on every way out.
 #![tactic(auto)]
 
 pub mod combined;
 pub mod encryption;
 pub mod integrity;
 mod keystream;
+mod refusing;
 mod tags;
-mod tests;
 mod work_area;
 
 pub use combined::{nca5_cover, nca5_open};

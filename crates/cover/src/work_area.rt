@@ -24,7 +24,7 @@ pub(crate) const Q: usize = 16;
 /// Where P stands.
 pub(crate) const P: usize = 32;
 
-/// Where the current block of keystream stands, and later the tag.
+/// Where the current block of keystream stands, and the tag while it is made, copied or compared.
 pub(crate) const CURRENT: usize = 48;
 
 /// A guard over the caller's bytes, of whatever length. All of them are zero once it is dropped, on whatever way.
@@ -115,7 +115,7 @@ impl WorkArea<'_> {
 }
 
 /// Whether `bytes` begin with `tag`. Every byte of the tag is looked at, whatever the others are.
-#[tactic(auto, using(crate::proofs::TagLaws::unlike_none, crate::proofs::TagLaws::unlike_more, crate::proofs::TagLaws::unlike_tells))]
+#[tactic(auto, using(crate::proofs::TagLaws::difference_none, crate::proofs::TagLaws::difference_more, crate::proofs::TagLaws::difference_tells))]
 fn begins_with(bytes: &[u8], tag: &[u8]) -> bool
     requires { length tag.now ≤ length bytes.now }
     ensures { result ≡ same tag.now (take (length tag.now) bytes.now) }

@@ -18,7 +18,7 @@ pub add_current-requires-clause-octets : goal.add_current-requires-clause-octets
 add_current-requires-clause-octets g c =
     let m = g.G.Generator.meaning c.args.generator.now in
     let n = c.args.nonce.now.0 in
-    (shared m (g.G.Generator.meaning c.loop-index.generator) n c.loop-index.index _ (g.met.G.Generator.sound c.args.generator.now) c.loop-index.invariant.same (omega (arith, c.requires.within)) c.fetch.ensures.here).2
+    (shared m (g.G.Generator.meaning c.loop-index.generator) n _ _ (g.met.G.Generator.sound c.args.generator.now) c.loop-index.invariant.same (omega (arith, c.requires.within)) c.fetch.ensures.here).2
 
 pub loop-index-preserved : goal.loop-index-preserved
 loop-index-preserved g c =
@@ -30,7 +30,7 @@ loop-index-preserved g c =
     let text = c.args.text.bytes.now in
     let sound = g.met.G.Generator.sound c.args.generator.now in
     let within : i < m.reach n = omega (arith, c.requires.within) in
-    let key = shared m (mean c.loop-index.generator) n i _ sound inv.same within c.fetch.ensures.here in
+    let key = shared m (mean c.loop-index.generator) n _ _ sound inv.same (omega (arith, c.requires.within)) c.fetch.ensures.here in
     record {
       same = Same-trans m (mean c.loop-index.generator) (mean c.fetch.new.generator) inv.same c.fetch.ensures.same;
       name = search rules;
