@@ -5,6 +5,7 @@
 #include <stdio.h>
 #include <stdlib.h>
 #include <string.h>
+#include "plain.h"
 #include "timing.h"
 
 /* The exported calls, of crates/bench. */
@@ -13,84 +14,19 @@ void bench_keystream(const uint8_t key[32], const uint8_t nonce[12], uint32_t co
 
 enum { TURNS = 4000, KEYS = 500, COMPARED = 2000 };
 
-static uint8_t sbox[256];
-
-static uint8_t twice(uint8_t a)
-{
-    return (uint8_t)(a << 1 ^ (a >> 7) * 0x1B);
-}
-
-static uint8_t product(uint8_t a, uint8_t b)
-{
-    uint8_t sum = 0;
-    for (; b; b >>= 1, a = twice(a))
-        if (b & 1)
-            sum ^= a;
-    return sum;
-}
-
-static void make_sbox(void)
-{
-    for (int a = 0; a < 256; a++) {
-        uint8_t inverse = 0, s = 0x63;
-        for (int b = 1; b < 256; b++)
-            if (product((uint8_t)a, (uint8_t)b) == 1)
-                inverse = (uint8_t)b;
-        for (int turn = 0; turn < 5; turn++)
-            s ^= (uint8_t)(inverse << turn | inverse >> (8 - turn));
-        sbox[a] = s;
-    }
-}
-
-static void plain_aes(const uint8_t key[32], uint8_t s[16])
-{
-    uint8_t w[60][4], t[16], power = 1;
-    memcpy(w, key, 32);
-    for (int i = 8; i < 60; i++) {
-        uint8_t v[4];
-        for (int k = 0; k < 4; k++)
-            v[k] = i % 8 == 0 ? sbox[w[i - 1][(k + 1) % 4]] : i % 8 == 4 ? sbox[w[i - 1][k]] : w[i - 1][k];
-        if (i % 8 == 0) {
-            v[0] ^= power;
-            power = twice(power);
-        }
-        for (int k = 0; k < 4; k++)
-            w[i][k] = w[i - 8][k] ^ v[k];
-    }
-    for (int k = 0; k < 16; k++)
-        s[k] ^= w[k / 4][k % 4];
-    for (int round = 1; round <= 14; round++) {
-        for (int k = 0; k < 16; k++)
-            t[k] = sbox[s[k % 4 + 4 * ((k / 4 + k % 4) % 4)]];
-        for (int k = 0; k < 16; k++) {
-            const uint8_t *c = t + k / 4 * 4;
-            s[k] = round == 14 ? t[k] : (uint8_t)(product(c[k % 4], 2) ^ product(c[(k + 1) % 4], 3) ^ c[(k + 2) % 4] ^ c[(k + 3) % 4]);
-            s[k] ^= w[4 * round + k / 4][k % 4];
-        }
-    }
-}
-
-static void differ(const char *what)
-{
-    fprintf(stderr, "%s differ\n", what);
-    exit(1);
-}
-
 static void compare(void)
 {
     for (int turn = 0; turn < COMPARED; turn++) {
         uint8_t key[32], ours[16], plain[16], nonce[12], sum[16] = {0};
-        for (size_t i = 0; i < sizeof key; i++)
-            key[i] = (uint8_t)rand();
-        for (size_t i = 0; i < sizeof plain; i++)
-            ours[i] = plain[i] = (uint8_t)rand();
+        fill(key, sizeof key);
+        fill(plain, sizeof plain);
+        memcpy(ours, plain, sizeof ours);
         bench_aes256(key, ours, 2);
         plain_aes(key, plain);
         plain_aes(key, plain);
         if (memcmp(ours, plain, 16) != 0)
             differ("encryptions");
-        for (size_t i = 0; i < sizeof nonce; i++)
-            nonce[i] = (uint8_t)rand();
+        fill(nonce, sizeof nonce);
         uint32_t count = (uint32_t)(turn % 40);
         for (uint32_t index = 0; index < count; index++) {
             memcpy(plain, nonce, 12);

@@ -5,39 +5,13 @@
 #include <stdio.h>
 #include <stdlib.h>
 #include <string.h>
+#include "plain.h"
 #include "timing.h"
 
 /* The exported call, of crates/bench. A slice is a pointer and then a length. */
 void bench_fold(const uint8_t h[16], uint8_t value[16], uint32_t bits, const uint8_t *bytes, size_t length);
 
 enum { BLOCKS_A_ROUND = 20000 };
-
-/* a = a * b * x^-128, from the low bit up: add b where the bit is set, then divide by x. */
-static void plain_dot(uint8_t a[16], const uint8_t b[16])
-{
-    uint8_t r[16] = {0};
-    for (int i = 0; i < 128; i++) {
-        if (a[i / 8] >> (i % 8) & 1)
-            for (int k = 0; k < 16; k++)
-                r[k] ^= b[k];
-        int low = r[0] & 1;
-        for (int k = 0; k < 16; k++)
-            r[k] = r[k] >> 1 | (k < 15 ? r[k + 1] << 7 : 0);
-        if (low)
-            r[15] ^= 0xE1;
-    }
-    memcpy(a, r, 16);
-}
-
-/* The most significant bit of a byte comes first. */
-static void plain_fold(const uint8_t h[16], uint8_t value[16], uint32_t bits, const uint8_t *bytes)
-{
-    for (uint32_t block = 0; block < bits; block += 128) {
-        for (uint32_t at = block; at < block + 128 && at < bits; at++)
-            value[at / 8 % 16] ^= bytes[at / 8] & (0x80 >> at % 8);
-        plain_dot(value, h);
-    }
-}
 
 static void compare(const uint8_t h[16], const uint8_t *bytes)
 {
@@ -65,10 +39,8 @@ int main(void)
 {
     static const size_t lengths[] = {16, 64, 160, 1400, 16384};
     srand(1);
-    for (size_t i = 0; i < sizeof h; i++)
-        h[i] = (uint8_t)rand();
-    for (size_t i = 0; i < sizeof bytes; i++)
-        bytes[i] = (uint8_t)rand();
+    fill(h, sizeof h);
+    fill(bytes, sizeof bytes);
     compare(h, bytes);
     length = sizeof bytes;
     warm_up(folds, 1);

@@ -1,6 +1,8 @@
 //! The calls that the programs of the folder `bench` measure and watch, exported for C. Nothing checks a declaration in C.
 #![tactic(auto)]
 
+mod messages;
+
 ghost use Rattle.std.specs.Prelude.{◌≡◌, ◌++◌, length, drop};
 ghost use Rattle.field.specs.Blocks.{block_bytes, polynomial};
 ghost use Rattle.field.specs.Folds.{fold};
