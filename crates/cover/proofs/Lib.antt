@@ -3,3 +3,4 @@ pub mod SlotLaws
 pub mod KeystreamLaws
 pub mod StreamLaws
 pub mod CoverLaws
+pub mod SameLaws
