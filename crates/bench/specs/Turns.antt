@@ -1,8 +1,41 @@
 -- What the measured calls do many times over.
-use Rattle.std.specs.Prelude.{ℕ, zero, suc, List}
+use Rattle.std.specs.Prelude.{ℕ, zero, suc, ◌+◌, ◌%◌, ◌^◌, min, List, length, Ok, None}
 use Rattle.aes.specs.KeyExpansion.{aes256}
+use Rattle.aes_generator.specs.AesGenerator.{aes_meaning}
+use Rattle.cover.specs.Nca5.{Covering, covering, nca5_cover, nca5_open}
+use Rattle.cover.specs.Nea5.{nea5}
+use Rattle.nonces.specs.declared.Parameters.{Parameters}
 
 -- a block encrypted n times
 abbrev pub again : ℕ → List ℕ → List ℕ → List ℕ
 again zero key block = block
 again (suc n) key block = aes256 key (again n key block)
+
+-- what the measured messages go under, each with its count
+abbrev pub parameters : ℕ → Parameters
+parameters count = record { bearer = 5; direction = 0; extra_iv = None; count = count }
+
+-- the size of a tag of so many bytes
+abbrev pub tag_size : ℕ → ℕ
+tag_size bytes = min bytes 255
+
+-- the output after n turns of NEA5, each under the count after that of the turn before
+abbrev pub encrypted : ℕ → List ℕ → ℕ → ℕ → List ℕ → List ℕ → List ℕ
+encrypted zero key count bits input output = output
+encrypted (suc n) key count bits input output =
+    (nea5 (aes_meaning key) 64 (parameters ((count + n) % 2 ^ 32)) bits input (encrypted n key count bits input output)).output
+
+-- the buffers for ciphertext and tag after n turns of NCA5, covering; and the last answer
+abbrev pub covered : ℕ → List ℕ → ℕ → ℕ → List ℕ → ℕ → List ℕ → List ℕ → List ℕ → Covering
+covered zero key count aad_bits aad bits message ciphertext tag = covering (Ok tt) ciphertext tag
+covered (suc n) key count aad_bits aad bits message ciphertext tag =
+    nca5_cover (aes_meaning key) 64 (parameters count) (tag_size (length tag)) aad_bits aad bits message
+    (covered n key count aad_bits aad bits message ciphertext tag).ciphertext
+    (covered n key count aad_bits aad bits message ciphertext tag).tag
+
+-- the buffer for the message after n turns of NCA5, opening
+abbrev pub opened : ℕ → List ℕ → ℕ → ℕ → List ℕ → ℕ → List ℕ → List ℕ → List ℕ → List ℕ
+opened zero key count aad_bits aad bits ciphertext tag message = message
+opened (suc n) key count aad_bits aad bits ciphertext tag message =
+    (nca5_open (aes_meaning key) 64 (parameters count) (tag_size (length tag)) aad_bits aad bits ciphertext tag
+    (opened n key count aad_bits aad bits ciphertext tag message)).output

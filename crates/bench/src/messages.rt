@@ -1,5 +1,7 @@
 //! The calls that cover and open a message many times over, for C. Their generator, AES, is made once from the key, so that the
 //! time of a message can be told from that of a key.
+ghost use Rattle.std.specs.Prelude.{◌≡◌, length};
+ghost use Rattle.bench.specs.Turns.{covered, encrypted, opened, parameters, tag_size};
 
 use super::bit_string;
 use aes_generator::AesGenerator;
@@ -22,7 +24,9 @@ pub extern "C" fn bench_nea5(
     bits: u32,
     input: &[u8],
     output: &mut [u8],
-) {
+)
+    ensures { output.new ≡ encrypted turns key.now count bits input.now output.old }
+{
     let mut generator = AesGenerator::new(&Key(*key));
     let mut work = [0; WORK];
     for turn in 0..turns {
@@ -50,7 +54,10 @@ pub extern "C" fn bench_nca5_cover(
     message: &[u8],
     ciphertext: &mut [u8],
     tag: &mut [u8],
-) {
+)
+    ensures ciphertext { ciphertext.new ≡ (covered turns key.now count aad_bits aad.now bits message.now ciphertext.old tag.old).ciphertext }
+    ensures tag { tag.new ≡ (covered turns key.now count aad_bits aad.now bits message.now ciphertext.old tag.old).tag }
+{
     let mut generator = AesGenerator::new(&Key(*key));
     let mut work = [0; WORK];
     let parameters = parameters(count);
@@ -82,7 +89,9 @@ pub extern "C" fn bench_nca5_open(
     ciphertext: &[u8],
     tag: &[u8],
     message: &mut [u8],
-) {
+)
+    ensures { message.new ≡ opened turns key.now count aad_bits aad.now bits ciphertext.now tag.now message.old }
+{
     let mut generator = AesGenerator::new(&Key(*key));
     let mut work = [0; WORK];
     let parameters = parameters(count);
@@ -102,7 +111,9 @@ pub extern "C" fn bench_nca5_open(
 }
 
 /// What the measured messages go under, each with its count.
-fn parameters(count: u32) -> Parameters {
+fn parameters(count: u32) -> Parameters
+    ensures { result ≡ parameters count }
+{
     Parameters {
         bearer: 5,
         direction: 0,
@@ -112,6 +123,8 @@ fn parameters(count: u32) -> Parameters {
 }
 
 /// The size of a tag of so many bytes.
-fn tag_size(bytes: usize) -> u8 {
+fn tag_size(bytes: usize) -> u8
+    ensures { result ≡ tag_size bytes }
+{
     bytes.min(255) as u8
 }
