@@ -1,7 +1,7 @@
-use Rattle.std.proofs.Common.{◌≡◌, ℕ, ◌+◌, List, length, ap, ap₂, ◌∙◌, rules}
+use Rattle.std.proofs.Common.{◌≡◌, ◌+◌, length, ap, rules}
 use Rattle.generator.proofs.KeystreamLaws.{Same-trans}
 use Rattle.aes_generator.specs.AesGenerator.{aes_meaning}
-use Rattle.cover.specs.Nca5.{Covering, covering, nca5_cover}
+use Rattle.cover.specs.Nca5.{Covering, covering}
 use Rattle.bench.specs.Turns.{covered, tag_size}
 use Rattle.bench.proofs.TurnLaws.{covered_more}
 use Rattle.bench.proofs.messages.bench_nca5_cover.Goals as goal
@@ -14,14 +14,11 @@ loop-preserved c =
     let t = c.tag_size-size.result in
     let m = aes_meaning l.generator.aes.key in
     let size : t ≡ tag_size (length c.args.tag.now) = search rules in
-    let answered : covering c.nca5_cover.result c.nca5_cover.new.ciphertext c.nca5_cover.new.tag ≡ nca5_cover m (length l.work) p t c.args.aad_bits c.args.aad.now c.args.bits c.args.message.now l.ciphertext l.tag =
-    c.nca5_cover.ensures.outcome
-    ∙ ap₂ (λ (bits : ℕ) (aad : List ℕ). nca5_cover m (length l.work) p t bits aad c.bit_string-in-loop.result.bits.0 c.bit_string-in-loop.result.bytes.now l.ciphertext l.tag) c.bit_string.ensures.bits c.bit_string.ensures.bytes
-    ∙ ap₂ (λ (bits : ℕ) (message : List ℕ). nca5_cover m (length l.work) p t c.args.aad_bits c.args.aad.now bits message l.ciphertext l.tag) c.bit_string-in-loop.ensures.bits c.bit_string-in-loop.ensures.bytes
+    let answered =
+    rw (c.bit_string.ensures.bits, c.bit_string.ensures.bytes, c.bit_string-in-loop.ensures.bits, c.bit_string-in-loop.ensures.bytes) at c.nca5_cover.ensures.outcome
     in
     let more : covering c.nca5_cover.result c.nca5_cover.new.ciphertext c.nca5_cover.new.tag ≡ covered (l.counter + 1) key c.args.count c.args.aad_bits c.args.aad.now c.args.bits c.args.message.now c.args.ciphertext.now c.args.tag.now =
-    covered_more key l.generator.aes.key c.args.count l.counter (length l.work) p t c.args.aad_bits c.args.aad.now c.args.bits c.args.message.now c.args.ciphertext.now c.args.tag.now
-    l.ciphertext l.tag c.nca5_cover.new.ciphertext c.nca5_cover.new.tag c.nca5_cover.result l.invariant.same l.invariant.work c.parameters-parameters.ensures size l.invariant.ciphertext l.invariant.tag answered
+    covered_more key l.generator.aes.key _ l.counter _ _ _ _ _ _ _ c.args.ciphertext.now c.args.tag.now _ _ _ _ _ l.invariant.same l.invariant.work c.parameters-parameters.ensures size l.invariant.ciphertext l.invariant.tag answered
     in
     record {
       same = Same-trans (aes_meaning key) m (aes_meaning c.nca5_cover.new.generator.aes.key) l.invariant.same c.nca5_cover.ensures.same;
