@@ -4,8 +4,8 @@ use Rattle.units.specs.declared.refusals.Refusal.{Refusal}
 use Rattle.generator.specs.Generators.{Same}
 use Rattle.nonces.specs.declared.Parameters.{Parameters}
 use Rattle.cover.specs.Answers.{Written, outcome}
-use Rattle.cover.specs.Nca5.{covering, nca5_cover, nca5_open}
-use Rattle.cover.specs.Nea5.{nea5}
+use Rattle.cover.specs.Combined.{covering, nca5_cover, nca5_open}
+use Rattle.cover.specs.Encryption.{nea5}
 use Rattle.cover.proofs.SameLaws.{nca5_cover_same, nca5_open_same, nea5_same}
 use Rattle.aes_generator.specs.AesGenerator.{aes_meaning}
 use Rattle.bench.specs.Turns.{covered, encrypted, opened, parameters, tag_size}

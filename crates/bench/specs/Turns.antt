@@ -2,8 +2,8 @@
 use Rattle.std.specs.Prelude.{ℕ, zero, suc, ◌+◌, ◌%◌, ◌^◌, min, List, length, Ok, None}
 use Rattle.aes.specs.KeyExpansion.{aes256}
 use Rattle.aes_generator.specs.AesGenerator.{aes_meaning}
-use Rattle.cover.specs.Nca5.{Covering, covering, nca5_cover, nca5_open}
-use Rattle.cover.specs.Nea5.{nea5}
+use Rattle.cover.specs.Combined.{Covering, covering, nca5_cover, nca5_open}
+use Rattle.cover.specs.Encryption.{nea5}
 use Rattle.nonces.specs.declared.Parameters.{Parameters}
 
 -- a block encrypted n times

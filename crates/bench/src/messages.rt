@@ -5,8 +5,8 @@ ghost use Rattle.bench.specs.Turns.{covered, encrypted, opened, parameters, tag_
 
 use super::bit_string;
 use aes_generator::AesGenerator;
-use cover::nca5::{nca5_cover, nca5_open};
-use cover::nea5::nea5;
+use cover::{nca5_cover, nca5_open};
+use cover::nea5;
 use generator::Key;
 use nonces::Parameters;
 

@@ -14,8 +14,8 @@ use Rattle.nonces.specs.Nonces.{nonce_refusal}
 use Rattle.nonces.specs.declared.Parameters.{Parameters}
 use Rattle.cover.specs.Answers.{outcome, refused_here, told, unlike, written}
 use Rattle.cover.specs.Keystream.{covered}
-use Rattle.cover.specs.Nca5.{both_written, cover_refusal, covering, instance_nonce, nca5_cover, nca5_open, open_refusal, stream_nonce, tag_of, too_short_for, wrong_tag}
-use Rattle.cover.specs.Nea5.{nea5, nea5_nonce, nea5_refusal}
+use Rattle.cover.specs.Combined.{both_written, cover_refusal, covering, instance_nonce, nca5_cover, nca5_open, open_refusal, stream_nonce, tag_of, too_short_for, wrong_tag}
+use Rattle.cover.specs.Encryption.{nea5, nea5_nonce, nea5_refusal}
 use Rattle.cover.specs.Tags.{key_h, key_p, key_q, tag_under}
 use Rattle.cover.proofs.StreamLaws.{covered_same}
 use Rattle.cover.proofs.TagLaws.{tag_same}

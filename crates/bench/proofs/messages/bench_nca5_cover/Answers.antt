@@ -1,7 +1,7 @@
 use Rattle.std.proofs.Common.{◌≡◌, ◌+◌, length, ap, rules}
 use Rattle.generator.proofs.KeystreamLaws.{Same-trans}
 use Rattle.aes_generator.specs.AesGenerator.{aes_meaning}
-use Rattle.cover.specs.Nca5.{Covering, covering}
+use Rattle.cover.specs.Combined.{Covering, covering}
 use Rattle.bench.specs.Turns.{covered, tag_size}
 use Rattle.bench.proofs.TurnLaws.{covered_more}
 use Rattle.bench.proofs.messages.bench_nca5_cover.Goals as goal
