@@ -1,6 +1,7 @@
 //! Examples and boundaries of the library crates. The contracts say what holds for every input; these run the code.
 #![tactic(auto)]
 
+mod covers;
 mod generators;
 mod recordings;
 mod refusals;
