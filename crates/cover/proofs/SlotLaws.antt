@@ -1,14 +1,12 @@
 -- The places of a work area, and the blocks in them.
-use Rattle.std.proofs.Common.{◌≡◌, ℕ, zero, suc, ◌+◌, ◌-◌, ◌*◌, ◌/◌, ◌%◌, ◌<◌, ◌≤◌, List, [], ◌∷◌, ◌++◌, length, replicate, take, drop, sym, refl, ap, ◌∙◌, ap₂, arith, length-append, length-drop, length-take, lit<}
+use Rattle.std.proofs.Common.{◌≡◌, ℕ, zero, suc, ◌+◌, ◌-◌, ◌*◌, ◌/◌, ◌%◌, ◌<◌, ◌≤◌, List, [], ◌∷◌, ◌++◌, length, take, drop, set, get_or, sym, refl, ap, ◌∙◌, ap₂, arith, length-append, length-drop, length-take}
 use Rattle.std.specs.Simd.Lanes.{digits_l}
-use Rattle.std.proofs.lemmas.List.{drop_at, drop-append-le, take-append-le, take-take, take_at}
+use Rattle.std.proofs.lemmas.List.{drop_at, take_all, take_more, take_more_set, drop-append-le, take-append-le, take-take, take_at}
 use Rattle.std.proofs.lemmas.Slice.{between_is}
 use Rattle.units.specs.Strings.{Octets}
 use Rattle.units.specs.Sums.{◌⊕◌, sums}
-use Rattle.units.proofs.StringLaws.{Octets-append, Octets-drop}
-use Rattle.units.proofs.SumLaws.{take-sums}
+use Rattle.units.proofs.SumLaws.{length-sums}
 use Rattle.field.specs.Blocks.{block_bytes, polynomial}
-use Rattle.field.proofs.BlockLaws.{sums-digits}
 use Rattle.cover.specs.WorkArea.{slot}
 
 -- bytes read as a polynomial and written again
@@ -26,35 +24,30 @@ pub block_back : (xs : List ℕ) → length xs ≡ 16 → Octets xs → block_by
 unfolding block_bytes
 block_back xs = digits_back 16 xs
 
-octets_zeros : (n : ℕ) → Octets (replicate n 0)
-octets_zeros zero k = lit< tt
-octets_zeros (suc n) zero = lit< tt
-octets_zeros (suc n) (suc k) = octets_zeros n k
-
--- what a block of keystream adds to at most sixteen bytes
-pub sums_block : (text key : List ℕ) → length text ≤ 16 → length key ≡ 16 → Octets text → Octets key → take (length text) (block_bytes (polynomial (text ++ drop (length text) (replicate 16 0)) ⊕ polynomial key)) ≡ sums text key
-unfolding block_bytes
-sums_block text key h k o p =
-    let n = length text in
-    let zeros : List ℕ = replicate 16 0 in
-    let filled : List ℕ = text ++ drop n zeros in
-    let long : length filled ≡ 16 = length-append text (drop n zeros) ∙ omega (arith, length-drop n zeros) in
-    let bytes : Octets filled = Octets-append text (drop n zeros) o (Octets-drop zeros n (octets_zeros 16)) in
-    ap (take n) (sym (sums-digits 16 (polynomial filled) (polynomial key)) ∙ ap₂ sums (digits_back 16 filled long bytes) (digits_back 16 key k p))
-    ∙ take-sums n filled key
-    ∙ ap (λ (l : List ℕ). sums l (take n key)) (take_at text (drop n zeros) n refl)
-    ∙ short text key (omega arith)
+-- one byte more of a sum
+pub sums_more : (xs ys old : List ℕ) (i : ℕ) → i < length xs → length xs ≤ length ys → length old ≡ length xs → take i old ≡ take i (sums xs ys) → take (i + 1) (set old i (get_or xs i 0 ⊕ get_or ys i 0)) ≡ take (i + 1) (sums xs ys)
+sums_more xs ys old i h k e b =
+    take_more_set old i (get_or xs i 0 ⊕ get_or ys i 0) (omega arith)
+    ∙ ap (λ (l : List ℕ). l ++ (get_or xs i 0 ⊕ get_or ys i 0) ∷ []) b
+    ∙ ap (λ (b : ℕ). take i (sums xs ys) ++ b ∷ []) (sym (each i xs ys h (omega arith)))
+    ∙ sym (take_more (sums xs ys) i 0 (omega (arith, length-sums xs ys k)))
   where
-    short : (xs ys : List ℕ) → length xs ≤ length ys → sums xs (take (length xs) ys) ≡ sums xs ys
-    short [] ys h = refl
-    short (x ∷ xs) [] h = refl
-    short (x ∷ xs) (y ∷ ys) h = ap (λ (l : List ℕ). (x ⊕ y) ∷ l) (short xs ys (omega arith))
+    each : (i : ℕ) (xs ys : List ℕ) → i < length xs → i < length ys → get_or (sums xs ys) i 0 ≡ get_or xs i 0 ⊕ get_or ys i 0
+    each i [] ys h k = absurd (omega arith)
+    each i (x ∷ xs) [] h k = absurd (omega arith)
+    each zero (x ∷ xs) (y ∷ ys) h k = refl
+    each (suc i) (x ∷ xs) (y ∷ ys) h k = each i xs ys (omega arith) (omega arith)
+
+-- all bytes of it
+pub sums_whole : (xs ys sum : List ℕ) (i : ℕ) → length xs ≤ i → length xs ≤ length ys → length sum ≡ length xs → take i sum ≡ take i (sums xs ys) → sum ≡ sums xs ys
+sums_whole xs ys sum i n h e b = sym (take_all i sum (omega arith)) ∙ b ∙ take_all i (sums xs ys) (omega (arith, length-sums xs ys h))
 
 -- ---- places
 
-pub length_slot : (xs : List ℕ) (at : ℕ) → at + 16 ≤ length xs → length (slot xs at) ≡ 16
+-- the last place of an area
+pub slot_last : (xs : List ℕ) → length xs ≡ 64 → drop 48 xs ≡ slot xs 48
 unfolding slot
-length_slot xs at h = omega (arith, length-take 16 (drop at xs), length-drop at xs)
+slot_last xs h = sym (take_all 16 (drop 48 xs) (omega (arith, length-drop 48 xs)))
 
 -- after a write of sixteen bytes from `at` on, the rest being what it was
 module _ (xs ys rest : List ℕ) (at : ℕ) (room : at + 16 ≤ length xs) (long : length ys ≡ 16) where

@@ -74,12 +74,14 @@ impl WorkArea<'_> {
         requires { place + 16 ≤ length self.now.bytes.now }
         ensures { result.0 ≡ polynomial (slot self.now.bytes.now place) }
     {
-        let mut block = [0; BLOCK];
-        block.copy_from_slice(&self.bytes[place..place + BLOCK]);
-        Block::from_bytes(&block)
+        match self.bytes[place..].first_chunk() {
+            Some(block) => Block::from_bytes(block),
+            None => unreachable!(),
+        }
     }
 
     /// Adds the current block to at most sixteen bytes.
+    #[tactic(auto, unfolding(crate::specs::WorkArea::slot), using(crate::proofs::SlotLaws::slot_last))]
     pub(crate) fn add_current(&self, text: &[u8], sum: &mut [u8])
         requires room { length self.now.bytes.now ≡ 64 }
         requires octets { Octets (slot self.now.bytes.now 48) }
@@ -87,10 +89,7 @@ impl WorkArea<'_> {
         requires alike { length sum.now ≡ length text.now }
         ensures { sum.new ≡ sums text.now (slot self.now.bytes.now 48) }
     {
-        let mut block = [0; BLOCK];
-        block[..text.len()].copy_from_slice(text);
-        let total = Block::from_bytes(&block) + self.block(CURRENT);
-        sum.copy_from_slice(&total.to_bytes()[..text.len()]);
+        add(text, &self.bytes[CURRENT..], sum);
     }
 
     /// Whether a tag is the beginning of the current block. Every byte of it is looked at, whatever the others are.
@@ -111,6 +110,18 @@ impl WorkArea<'_> {
         ensures { tag.new ≡ take (length tag.old) (slot self.now.bytes.now 48) }
     {
         tag.copy_from_slice(&self.bytes[CURRENT..CURRENT + tag.len()]);
+    }
+}
+
+/// Writes the sums of the bytes of a text and of the first ones of a key.
+#[tactic(auto, using(crate::proofs::SlotLaws::sums_more, crate::proofs::SlotLaws::sums_whole))]
+fn add(text: &[u8], key: &[u8], sum: &mut [u8])
+    requires enough { length text.now ≤ length key.now }
+    requires alike { length sum.now ≡ length text.now }
+    ensures { sum.new ≡ sums text.now key.now }
+{
+    for i in 0..text.len() {
+        sum[i] = text[i] ^ key[i];
     }
 }
 
