@@ -8,6 +8,7 @@ ghost use Rattle.cover.specs.WorkArea.{slot, wiped};
 
 use field::Block;
 use generator::{Generator, Nonce};
+use std::simd::prelude::*;
 
 /// How long a work area has to be.
 pub(crate) const LENGTH: usize = 64;
@@ -65,7 +66,7 @@ impl WorkArea<'_> {
         ensures here { slot self.new.bytes.now place ≡ block_bytes block.0 }
         ensures before { (i : ℕ) → i + 16 ≤ place → slot self.new.bytes.now i ≡ slot self.old.bytes.now i }
     {
-        self.bytes[place..place + BLOCK].copy_from_slice(&block.to_bytes());
+        self.bytes[place..place + BLOCK].copy_from_slice(&to_bytes(block));
     }
 
     /// The block at a place.
@@ -111,6 +112,17 @@ impl WorkArea<'_> {
     {
         tag.copy_from_slice(&self.bytes[CURRENT..CURRENT + tag.len()]);
     }
+}
+
+/// The sixteen bytes of a block, by way of a vector: for those of a number the compiler shifts it once for each byte, and
+/// for these not at all.
+fn to_bytes(block: Block) -> [u8; 16]
+    ensures { result ≡ block_bytes block.0 }
+{
+    let low = block.0 % (1 << 64);
+    let high = block.0 >> 64;
+    let halves = u64x2::from_array([low as u64, high as u64]);
+    halves.to_le_bytes().to_array()
 }
 
 /// Writes the sums of the bytes of a text and of the first ones of a key.
