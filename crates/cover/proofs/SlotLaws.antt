@@ -1,5 +1,5 @@
 -- The places of a work area, and the blocks in them.
-use Rattle.std.proofs.Common.{◌≡◌, ℕ, zero, suc, ◌+◌, ◌-◌, ◌*◌, ◌/◌, ◌%◌, ◌^◌, ◌<◌, ◌≤◌, List, [], ◌∷◌, ◌++◌, length, take, drop, set, get_or, sym, refl, ap, ◌∙◌, ap₂, arith, length-append, length-drop, length-take}
+use Rattle.std.proofs.Common.{◌≡◌, ℕ, zero, suc, ◌+◌, ◌-◌, ◌*◌, ◌/◌, ◌%◌, ◌<◌, ◌≤◌, List, [], ◌∷◌, ◌++◌, length, take, drop, set, get_or, sym, refl, ap, ◌∙◌, ap₂, arith, length-append, length-drop, length-take}
 use Rattle.std.specs.Simd.Lanes.{digits_l}
 use Rattle.std.proofs.lemmas.List.{drop_at, take_all, take_more, take_more_set, drop-append-le, take-append-le, take-take, take_at}
 use Rattle.std.proofs.lemmas.Slice.{between_is}
@@ -41,11 +41,6 @@ sums_more xs ys old i h k e b =
 -- all bytes of it
 pub sums_whole : (xs ys sum : List ℕ) (i : ℕ) → length xs ≤ i → length xs ≤ length ys → length sum ≡ length xs → take i sum ≡ take i (sums xs ys) → sum ≡ sums xs ys
 sums_whole xs ys sum i n h e b = sym (take_all i sum (omega arith)) ∙ b ∙ take_all i (sums xs ys) (omega (arith, length-sums xs ys h))
-
--- a block as the vector of its halves
-pub halves : (v : ℕ) → digits_l 256 16 (v % 2 ^ 64 + 2 ^ 64 * (v / 2 ^ 64 + 0)) ≡ block_bytes v
-unfolding block_bytes
-halves v = ap (digits_l 256 16) (omega arith)
 
 -- ---- places
 

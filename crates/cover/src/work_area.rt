@@ -1,6 +1,6 @@
 //! The work area: 64 bytes of the caller's that hold H, Q, P and the current block of keystream while a call needs them.
 ghost use Rattle.std.specs.Prelude.{◌≡◌, ℕ, ◌+◌, ◌≤◌, length, take};
-ghost use Rattle.units.specs.Strings.{Octets, same};
+ghost use Rattle.units.specs.Strings.{same};
 ghost use Rattle.units.specs.Sums.{sums};
 ghost use Rattle.generator.specs.Generators.{Same};
 ghost use Rattle.field.specs.Blocks.{block_bytes, polynomial};
@@ -8,7 +8,6 @@ ghost use Rattle.cover.specs.WorkArea.{slot, wiped};
 
 use field::Block;
 use generator::{Generator, Nonce};
-use std::simd::prelude::*;
 
 /// How long a work area has to be.
 pub(crate) const LENGTH: usize = 64;
@@ -66,7 +65,7 @@ impl WorkArea<'_> {
         ensures here { slot self.new.bytes.now place ≡ block_bytes block.0 }
         ensures before { (i : ℕ) → i + 16 ≤ place → slot self.new.bytes.now i ≡ slot self.old.bytes.now i }
     {
-        self.bytes[place..place + BLOCK].copy_from_slice(&to_bytes(block));
+        self.bytes[place..place + BLOCK].copy_from_slice(&block.to_bytes());
     }
 
     /// The block at a place.
@@ -85,7 +84,6 @@ impl WorkArea<'_> {
     #[tactic(auto, unfolding(crate::specs::WorkArea::slot), using(crate::proofs::SlotLaws::slot_last))]
     pub(crate) fn add_current(&self, text: &[u8], sum: &mut [u8])
         requires room { length self.now.bytes.now ≡ 64 }
-        requires octets { Octets (slot self.now.bytes.now 48) }
         requires short { length text.now ≤ 16 }
         requires alike { length sum.now ≡ length text.now }
         ensures { sum.new ≡ sums text.now (slot self.now.bytes.now 48) }
@@ -112,17 +110,6 @@ impl WorkArea<'_> {
     {
         tag.copy_from_slice(&self.bytes[CURRENT..CURRENT + tag.len()]);
     }
-}
-
-/// The sixteen bytes of a block, by way of a vector: for those of a number the compiler shifts it once for each byte, and
-/// for these not at all.
-fn to_bytes(block: Block) -> [u8; 16]
-    ensures { result ≡ block_bytes block.0 }
-{
-    let low = block.0 % (1 << 64);
-    let high = block.0 >> 64;
-    let halves = u64x2::from_array([low as u64, high as u64]);
-    halves.to_le_bytes().to_array()
 }
 
 /// Writes the sums of the bytes of a text and of the first ones of a key.

@@ -1,5 +1,5 @@
 -- Blocks and their polynomials.
-use Rattle.std.proofs.Common.{◌≡◌, ℕ, zero, suc, ◌+◌, ◌-◌, ◌*◌, ◌/◌, ◌^◌, ◌<◌, ◌≤◌, List, [], ◌∷◌, ◌++◌, map, length, get_or, take, drop, replicate, sym, refl, ap, ◌∙◌, ap₂, le_refl, le_of_suc-le-suc, not-suc-le-zero, div-mul-le_self, arith, length-append, length-drop, length-take, drop-drop, bit_xor}
+use Rattle.std.proofs.Common.{◌≡◌, ℕ, zero, suc, ◌+◌, ◌-◌, ◌*◌, ◌/◌, ◌%◌, ◌^◌, ◌<◌, ◌≤◌, List, [], ◌∷◌, ◌++◌, map, length, get_or, take, drop, replicate, sym, refl, ap, ◌∙◌, ap₂, le_refl, le_of_suc-le-suc, not-suc-le-zero, div-mul-le_self, arith, length-append, length-drop, length-take, drop-drop, bit_xor}
 use Rattle.std.specs.Simd.{first_chunks}
 use Rattle.std.proofs.Math.Decide.{le_ind}
 use Rattle.std.proofs.Math.Nat.{min_comm}
@@ -12,7 +12,7 @@ use Rattle.units.specs.Spare.{cleared, high}
 use Rattle.units.proofs.SpareLaws.{cleared_whole, drop-cleared, length-cleared, take-cleared}
 use Rattle.units.proofs.StringLaws.{Octets-drop, Octets-take}
 use Rattle.units.proofs.SumLaws.{drop-sums, length-sums, take-sums}
-use Rattle.field.specs.Blocks.{blocks, blocks_by, polynomial}
+use Rattle.field.specs.Blocks.{block_bytes, blocks, blocks_by, polynomial}
 
 -- ---- the polynomial of a byte string
 
@@ -79,6 +79,11 @@ sums-digits zero v w = refl
 sums-digits (suc n) v w =
     ap₂ (λ (b : ℕ) (bs : List ℕ). b ∷ bs) (sym (xor_mod v w 8))
     (sums-digits n (v / 256) (w / 256) ∙ ap (digits_l 256 n) (sym (xor_shr v w 8)))
+
+-- those of the vector of its halves
+pub halves : (v : ℕ) → digits_l 256 16 (v % 2 ^ 64 + 2 ^ 64 * (v / 2 ^ 64 + 0)) ≡ block_bytes v
+unfolding block_bytes
+halves v = ap (digits_l 256 16) (omega arith)
 
 -- ---- the blocks of a byte string
 

@@ -5,6 +5,7 @@ ghost use Rattle.polynomials.specs.Field.{pdot};
 ghost use Rattle.field.specs.Blocks.{block_bytes, polynomial};
 
 use std::ops::Add;
+use std::simd::prelude::*;
 
 /// A block, as the polynomial that it stands for. Most blocks are secret, so it has neither `Debug` nor
 /// equality.
@@ -23,12 +24,17 @@ impl Block {
         Block(u128::from_le_bytes(*bytes))
     }
 
-    /// The sixteen bytes of the block.
+    /// The sixteen bytes of the block. They are taken from a vector, which the compiler stores whole: a number of 128 bits
+    /// it shifts once for each byte.
     pub fn to_bytes(self) -> [u8; 16]
         ensures value { result ≡ block_bytes self.0 }
         ensures back { polynomial result ≡ self.0 }
     {
-        self.0.to_le_bytes()
+        let low = self.0 % (1 << 64);
+        let high = self.0 >> 64;
+        u64x2::from_array([low as u64, high as u64])
+            .to_le_bytes()
+            .to_array()
     }
 }
 

@@ -14,12 +14,6 @@ loop-index-init g c =
       out = begun_none (g.G.Generator.meaning c.args.generator.now) c.args.nonce.now.0 c.args.text.bytes.now c.args.out.now;
     }
 
-pub add_current-requires-clause-octets : goal.add_current-requires-clause-octets
-add_current-requires-clause-octets g c =
-    let m = g.G.Generator.meaning c.args.generator.now in
-    let n = c.args.nonce.now.0 in
-    (shared m (g.G.Generator.meaning c.loop-index.generator) n _ _ (g.met.G.Generator.sound c.args.generator.now) c.loop-index.invariant.same (omega (arith, c.requires.within)) c.fetch.ensures.here).2
-
 pub loop-index-preserved : goal.loop-index-preserved
 loop-index-preserved g c =
     let mean = g.G.Generator.meaning in

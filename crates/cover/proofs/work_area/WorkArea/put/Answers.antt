@@ -16,6 +16,6 @@ returns c =
     record {
       name = search rules;
       length = length-put xs ys rest at c.requires long back;
-      here = slot_here xs ys rest at c.requires long ∙ c.copy_from_slice.ensures.after ∙ c.to_bytes.ensures;
+      here = slot_here xs ys rest at c.requires long ∙ c.copy_from_slice.ensures.after ∙ c.to_bytes.ensures.value;
       before = slot_before xs ys rest at c.requires long;
     }
