@@ -93,7 +93,8 @@ pub fn nca5_open<G: Generator>(
     refuse_short(generator, &keys, KEYS)?;
     refuse_short(generator, &stream, u64::from(bits.blocks()))?;
     put_tag(generator, &keys, &mut area, aad, ciphertext);
-    refuse_if(!area.begins_with(tag), Reason::WrongTag)?;
+    let right = area.begins_with(tag);
+    refuse_if(!right, Reason::WrongTag)?;
     cover(generator, &stream, &mut area, ciphertext, message);
     Ok(())
 }

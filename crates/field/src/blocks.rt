@@ -26,6 +26,7 @@ impl Block {
 
     /// The sixteen bytes of the block. They are taken from a vector, which the compiler stores whole: a number of 128 bits
     /// it shifts once for each byte.
+    #[tactic(auto, using(crate::proofs::BlockLaws::halves))]
     pub fn to_bytes(self) -> [u8; 16]
         ensures value { result ≡ block_bytes self.0 }
         ensures back { polynomial result ≡ self.0 }

@@ -24,8 +24,8 @@ returns-in_err-refuse_if-5-clause-outcome g c =
     let both : Same m tested = Same-trans m (mean c.refuse_short.new.generator) tested first c.refuse_short-2.ensures.same in
     let enough : 3 ≤ m.reach keys = search rules in
     let far : begun bits ≤ m.reach stream = (let e = first.reach stream in search rules) in
-    let judged : c.begins_with.result ≡ same tag (tag_under m keys (length tag) c.args.aad.bits.0 aad bits ciphertext) =
-    c.begins_with.ensures
+    let judged : c.begins_with-right.result ≡ same tag (tag_under m keys (length tag) c.args.aad.bits.0 aad bits ciphertext) =
+    c.begins_with-right.ensures
     ∙ ap (same tag) (tag_same m tested keys (length tag) c.args.aad.bits.0 aad bits ciphertext _ both enough c.put_tag.ensures.tag)
     in
     let size_is : length tag ≡ c.args.tag_size = search rules in
@@ -47,8 +47,8 @@ returns-clause-outcome g c =
     let all : Same m (mean c.put_tag.new.generator) = Same-trans m tested (mean c.put_tag.new.generator) both c.put_tag.ensures.same in
     let enough : 3 ≤ m.reach keys = search rules in
     let far : begun bits ≤ m.reach stream = (let e = first.reach stream in search rules) in
-    let judged : c.begins_with.result ≡ same tag (tag_under m keys (length tag) c.args.aad.bits.0 aad bits ciphertext) =
-    c.begins_with.ensures
+    let judged : c.begins_with-right.result ≡ same tag (tag_under m keys (length tag) c.args.aad.bits.0 aad bits ciphertext) =
+    c.begins_with-right.ensures
     ∙ ap (same tag) (tag_same m tested keys (length tag) c.args.aad.bits.0 aad bits ciphertext _ both enough c.put_tag.ensures.tag)
     in
     let out : c.cover.new.out ≡ covered m stream bits ciphertext = c.cover.ensures.out ∙ covered_same m (mean c.put_tag.new.generator) stream bits ciphertext all far in
