@@ -1,5 +1,5 @@
 -- Keystream, block by block.
-use Rattle.std.proofs.Common.{◌≡◌, ℕ, zero, suc, ◌+◌, ◌-◌, ◌*◌, ◌<◌, ◌≤◌, min, List, [], ◌∷◌, ◌++◌, length, take, drop, length-drop, drop-drop, append_assoc, append-nil, add-one, Ok, sym, refl, subst, ap, ◌∙◌, ap₂, arith}
+use Rattle.std.proofs.Common.{◌≡◌, ℕ, zero, suc, ◌+◌, ◌-◌, ◌*◌, ◌<◌, ◌≤◌, min, List, [], ◌∷◌, ◌++◌, length, take, drop, length-drop, drop-drop, append_assoc, append-nil, add-one, Ok, sym, refl, ap, ◌∙◌, ap₂, arith}
 use Rattle.std.proofs.lemmas.Bool.Decides.{nat_tests}
 use Rattle.field.specs.declared.blocks.Block.{Block}
 use Rattle.field.specs.Blocks.{block_bytes}
@@ -11,8 +11,7 @@ use Rattle.units.specs.Spare.{cleared}
 use borrow.Rule.Slice.PartMut.{put_mid}
 use Rattle.units.proofs.SumLaws.{length-sums, sums_comm}
 use Rattle.std.proofs.lemmas.List.{drop_all, drop_at, drop_min, take_at, take_min}
-use Rattle.cover.proofs.KeystreamLaws.{begun_enough}
-use Rattle.units.specs.Strings.{Octets}
+use Rattle.cover.proofs.KeystreamLaws.{begun_enough, length-stream}
 use Rattle.cover.proofs.SlotLaws.{block_back}
 
 -- the bytes of a block that a generator answered
@@ -20,11 +19,6 @@ pub answered_block : (m : Meaning) (n : List ℕ) (i : ℕ) (b : Block) → Soun
 answered_block m n i b s h e =
     let given : b ≡ block_of (m.block n i) = grind (arith, nat_tests) in
     ap (λ (x : Block). block_bytes x.0) given ∙ block_back (m.block n i) (s.sixteen n i h) (s.octets n i h)
-
--- each block that so many bits begin starts within the bytes that they fill
-pub starts_within : (bits i : ℕ) (text : List ℕ) → i < begun bits → length text ≡ filled bits → 16 * i < length text
-unfolding begun filled
-starts_within bits i text h l = omega arith
 
 sums-append : (xs ks ls : List ℕ) → sums xs (ks ++ ls) ≡ sums xs ks ++ sums (drop (length ks) xs) ls
 sums-append [] [] ls = refl
@@ -54,20 +48,24 @@ begun_none m n text old = record { is = none text }
     none (x ∷ xs) = refl
 
 -- one block more, over the bytes from 16 i to `to`
-pub begun_more : (m : Meaning) (n text : List ℕ) (i to : ℕ) (old out sum key : List ℕ)
+pub begun_more : (m m' : Meaning) (n text : List ℕ) (i to : ℕ) (old out sum : List ℕ)
+    → Sound m
+    → Same m m'
+    → i < m.reach n
     → Begun m n text i old out
-    → length (stream m n i) ≡ 16 * i
     → 16 * i < length text
     → to ≡ min (16 * i + 16) (length text)
     → length old ≡ length text
-    → key ≡ m.block n i
-    → length key ≡ 16
-    → sum ≡ sums (take (to - 16 * i) (drop (16 * i) text)) key
+    → sum ≡ sums (take (to - 16 * i) (drop (16 * i) text)) (m'.block n i)
     → Begun m n text (i + 1) old (put_mid (16 * i) (to - 16 * i) out sum)
 unfolding stream
-begun_more m n text i to old out sum key b ls h e lo k lk s =
+begun_more m m' n text i to old out sum sound same within b h e lo s =
     let at : ℕ = 16 * i in
+    let key = m'.block n i in
+    let k : key ≡ m.block n i = same.block n i within in
+    let lk : length key ≡ 16 = ap length k ∙ sound.sixteen n i within in
     let keys = stream m n i in
+    let ls : length keys ≡ 16 * i = length-stream m sound n i (omega arith) in
     let front = sums text keys in
     let back = drop at text in
     let long : length front ≡ at = length-sums_r text keys (omega arith) ∙ ls in
@@ -103,12 +101,6 @@ pub begun_all : (m : Meaning) (n text : List ℕ) (bits : ℕ) (old out : List �
 unfolding covered
 begun_all m n text bits old out b l =
     ap (cleared bits) (b.is ∙ ap (λ (r : List ℕ). sums text (stream m n (begun bits)) ++ r) (drop_all (16 * begun bits) old (omega (arith, begun_enough bits))) ∙ append-nil (sums text (stream m n (begun bits))))
-
--- a block that two meanings share is sixteen bytes
-pub shared : (m m' : Meaning) (n : List ℕ) (i : ℕ) (key : List ℕ) → Sound m → Same m m' → i < m.reach n → key ≡ m'.block n i → (key ≡ m.block n i) × (length key ≡ 16) × Octets key
-shared m m' n i key s e h k =
-    let here : key ≡ m.block n i = k ∙ e.block n i h in
-    (here, ap length here ∙ s.sixteen n i h, subst Octets (sym here) (s.octets n i h))
 
 -- generators that mean the same cover alike
 pub covered_same : (m m' : Meaning) (n : List ℕ) (bits : ℕ) (text : List ℕ) → Same m m' → begun bits ≤ m.reach n → covered m' n bits text ≡ covered m n bits text

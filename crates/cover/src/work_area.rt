@@ -13,7 +13,7 @@ use generator::{Generator, Nonce};
 pub(crate) const LENGTH: usize = 64;
 
 /// How long a block is.
-const BLOCK: usize = 16;
+pub(crate) const BLOCK: usize = 16;
 
 /// Where H stands in a work area.
 pub(crate) const H: usize = 0;
