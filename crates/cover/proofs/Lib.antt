@@ -4,3 +4,4 @@ pub mod KeystreamLaws
 pub mod StreamLaws
 pub mod CoverLaws
 pub mod SameLaws
+pub mod CallLaws

@@ -15,7 +15,11 @@ use Rattle.cover.proofs.KeystreamLaws.{begun_enough, length-stream}
 use Rattle.cover.proofs.SlotLaws.{block_back}
 
 -- the bytes of a block that a generator answered
-pub answered_block : (m : Meaning) (n : List ℕ) (i : ℕ) (b : Block) → Sound m → i < m.reach n → answered m n i ≡ Ok b → block_bytes b.0 ≡ m.block n i
+pub answered_block : (m : Meaning) (n : List ℕ) (i : ℕ) (b : Block)
+    → Sound m
+    → i < m.reach n
+    → answered m n i ≡ Ok b
+    → block_bytes b.0 ≡ m.block n i
 answered_block m n i b s h e =
     let given : b ≡ block_of (m.block n i) = grind (arith, nat_tests) in
     ap (λ (x : Block). block_bytes x.0) given ∙ block_back (m.block n i) (s.sixteen n i h) (s.octets n i h)
@@ -97,13 +101,21 @@ begun_more m m' n text i to old out sum sound same within b h e lo s =
     }
 
 -- all of it
-pub begun_all : (m : Meaning) (n text : List ℕ) (bits : ℕ) (old out : List ℕ) → Begun m n text (begun bits) old out → length old ≡ filled bits → cleared bits out ≡ covered m n bits text
+pub begun_all : (m : Meaning) (n text : List ℕ) (bits : ℕ) (old out : List ℕ)
+    → Begun m n text (begun bits) old out
+    → length old ≡ filled bits
+    → cleared bits out ≡ covered m n bits text
 unfolding covered
 begun_all m n text bits old out b l =
-    ap (cleared bits) (b.is ∙ ap (λ (r : List ℕ). sums text (stream m n (begun bits)) ++ r) (drop_all (16 * begun bits) old (omega (arith, begun_enough bits))) ∙ append-nil (sums text (stream m n (begun bits))))
+    let whole = sums text (stream m n (begun bits)) in
+    let none : drop (16 * begun bits) old ≡ [] = drop_all (16 * begun bits) old (omega (arith, begun_enough bits)) in
+    ap (cleared bits) (b.is ∙ ap (λ (r : List ℕ). whole ++ r) none ∙ append-nil whole)
 
 -- generators that mean the same cover alike
-pub covered_same : (m m' : Meaning) (n : List ℕ) (bits : ℕ) (text : List ℕ) → Same m m' → begun bits ≤ m.reach n → covered m' n bits text ≡ covered m n bits text
+pub covered_same : (m m' : Meaning) (n : List ℕ) (bits : ℕ) (text : List ℕ)
+    → Same m m'
+    → begun bits ≤ m.reach n
+    → covered m' n bits text ≡ covered m n bits text
 unfolding covered stream
 covered_same m m' n bits text s h = ap (λ (k : List ℕ). cleared bits (sums text k)) (streams (begun bits) h)
   where

@@ -1,9 +1,9 @@
-use Rattle.std.proofs.Common.{◌≡◌, ◌≤◌, length, ap, ◌∙◌, rules}
-use Rattle.units.specs.Lengths.{begun}
+use Rattle.std.proofs.Common.{◌≡◌, length, ap, ◌∙◌, rules}
 use Rattle.generator.specs.Generators.{Same}
 use Rattle.generator.proofs.KeystreamLaws.{Same-trans}
 use Rattle.cover.specs.Keystream.{covered}
 use Rattle.cover.specs.Tags.{tag_under}
+use Rattle.cover.proofs.CallLaws.{reaches}
 use Rattle.cover.proofs.StreamLaws.{covered_same}
 use Rattle.cover.proofs.TagLaws.{tag_same}
 use Rattle.cover.proofs.combined.nca5_cover.Goals as goal
@@ -13,21 +13,27 @@ returns-clause-outcome g c =
     let mean = g.G.Generator.meaning in
     let m = mean c.args.generator.now in
     let tested = mean c.refuse_short-2.new.generator in
+    let covering = mean c.cover.new.generator in
     let keys = c.in_ok-keys.keys.0 in
     let stream = c.in_ok-stream.stream.0 in
     let bits = c.args.message.bits.0 in
     let message = c.args.message.bytes.now in
     let aad = c.args.aad.bytes.now in
     let size = length c.args.tag.now in
-    let first : Same m (mean c.refuse_short.new.generator) = c.refuse_short.ensures.same in
-    let both : Same m tested = Same-trans m (mean c.refuse_short.new.generator) tested first c.refuse_short-2.ensures.same in
-    let all : Same m (mean c.cover.new.generator) = Same-trans m tested (mean c.cover.new.generator) both c.cover.ensures.same in
-    let enough : 3 ≤ m.reach keys = search rules in
-    let far : begun bits ≤ m.reach stream = (let e = first.reach stream in search rules) in
-    let out : c.cover.new.out ≡ covered m stream bits message = c.cover.ensures.out ∙ covered_same m tested stream bits message both far in
+    let known =
+    reaches m (mean c.refuse_short.new.generator) tested keys stream bits
+    c.refuse_short.ensures.same
+    c.refuse_short-2.ensures.same
+    (search rules)
+    (search rules)
+    in
+    let all : Same m covering = Same-trans m tested covering known.same c.cover.ensures.same in
+    let out : c.cover.new.out ≡ covered m stream bits message =
+    c.cover.ensures.out ∙ covered_same m tested stream bits message known.same known.far
+    in
     let made : c.copy_to.new.tag ≡ tag_under m keys size c.args.aad.bits.0 aad bits (covered m stream bits message) =
     c.copy_to.ensures
-    ∙ tag_same m (mean c.cover.new.generator) keys size c.args.aad.bits.0 aad bits c.cover.new.out _ all enough c.put_tag.ensures.tag
+    ∙ tag_same m covering keys size c.args.aad.bits.0 aad bits c.cover.new.out _ all known.enough c.put_tag.ensures.tag
     ∙ ap (tag_under m keys size c.args.aad.bits.0 aad bits) out
     in
     let size_is : size ≡ c.args.tag_size = search rules in
