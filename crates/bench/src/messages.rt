@@ -1,12 +1,11 @@
 //! The calls that cover and open a message many times over, for C. Their generator, AES, is made once from the key, so that the
 //! time of a message can be told from that of a key.
-ghost use Rattle.std.specs.Prelude.{◌≡◌, length};
+ghost use Rattle.std.specs.Prelude.{◌≡◌};
 ghost use Rattle.bench.specs.Turns.{covered, encrypted, opened, parameters, tag_size};
 
 use super::bit_string;
 use aes_generator::AesGenerator;
-use cover::{nca5_cover, nca5_open};
-use cover::nea5;
+use cover::{nca5_cover, nca5_open, nea5};
 use generator::Key;
 use nonces::Parameters;
 

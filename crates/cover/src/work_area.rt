@@ -2,12 +2,10 @@
 ghost use Rattle.std.specs.Prelude.{◌≡◌, ℕ, ◌+◌, ◌≤◌, length, take};
 ghost use Rattle.units.specs.Strings.{same};
 ghost use Rattle.units.specs.Sums.{sums};
-ghost use Rattle.generator.specs.Generators.{Same};
 ghost use Rattle.field.specs.Blocks.{block_bytes, polynomial};
 ghost use Rattle.cover.specs.WorkArea.{slot, wiped};
 
 use field::Block;
-use generator::{Generator, Nonce};
 
 /// How long a work area has to be.
 pub(crate) const LENGTH: usize = 64;
