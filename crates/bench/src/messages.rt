@@ -5,12 +5,9 @@ ghost use Rattle.bench.specs.Turns.{covered, encrypted, opened, parameters, tag_
 
 use super::bit_string;
 use aes_generator::AesGenerator;
-use cover::{nca5_cover, nca5_open, nea5};
+use cover::{WORK_AREA, nca5_cover, nca5_open, nea5};
 use generator::Key;
 use nonces::Parameters;
-
-/// How long a work area of the cover is.
-const WORK: usize = 64;
 
 /// Encrypts an input by NEA5 as often as `turns` says, with one generator of the key. Each turn goes under the count after
 /// that of the turn before it, the count 0 after the last: under the same count a generator that keeps the blocks it made
@@ -27,7 +24,7 @@ pub extern "C" fn bench_nea5(
     ensures { output.new ≡ encrypted turns key.now count bits input.now output.old }
 {
     let mut generator = AesGenerator::new(&Key(*key));
-    let mut work = [0; WORK];
+    let mut work = [0; WORK_AREA];
     for turn in 0..turns {
         let parameters = parameters(count.wrapping_add(turn));
         let _ = nea5(
@@ -58,7 +55,7 @@ pub extern "C" fn bench_nca5_cover(
     ensures tag { tag.new ≡ (covered turns key.now count aad_bits aad.now bits message.now ciphertext.old tag.old).tag }
 {
     let mut generator = AesGenerator::new(&Key(*key));
-    let mut work = [0; WORK];
+    let mut work = [0; WORK_AREA];
     let parameters = parameters(count);
     let size = tag_size(tag.len());
     for _ in 0..turns {
@@ -92,7 +89,7 @@ pub extern "C" fn bench_nca5_open(
     ensures { message.new ≡ opened turns key.now count aad_bits aad.now bits ciphertext.now tag.now message.old }
 {
     let mut generator = AesGenerator::new(&Key(*key));
-    let mut work = [0; WORK];
+    let mut work = [0; WORK_AREA];
     let parameters = parameters(count);
     let size = tag_size(tag.len());
     for _ in 0..turns {

@@ -3,11 +3,9 @@ use super::answers::Covered;
 use super::errors::Unreadable;
 use super::fields::{BitField, Fields};
 use super::sources::Sources;
+use cover::WORK_AREA;
 use nonces::Parameters;
 use units::Refusal;
-
-/// How long the work area is, unless a field says otherwise.
-const WORK: usize = 64;
 
 /// What each call of the cover takes beside its texts and its buffers.
 #[derive(Drop)]
@@ -22,7 +20,7 @@ impl Setting {
     fn take<'a>(fields: &mut Fields<'a>) -> Result<Result<Setting, Refusal>, Unreadable<'a>> {
         let sources = fields.sources()?;
         let parameters = message_parameters(fields)?;
-        let work = fields.room("work", WORK)?;
+        let work = fields.room("work", WORK_AREA)?;
         Ok(sources.map(|sources| Setting {
             sources,
             parameters,

@@ -8,7 +8,7 @@ ghost use Rattle.cover.specs.WorkArea.{wiped};
 use super::keystream::cover;
 use super::refusing::{refuse_if, refuse_short, unfilled};
 use super::tags::{KEYS, put_tag};
-use super::work_area::{LENGTH, WorkArea};
+use super::work_area::{WORK_AREA, WorkArea};
 use generator::Generator;
 use nonces::Parameters;
 use units::{BitString, Reason, Refusal};
@@ -34,7 +34,7 @@ pub fn nca5_cover<G: Generator>(
 {
     let bits = message.bits;
     let mut area = WorkArea::new(work);
-    refuse_if(area.len() != LENGTH, Reason::WorkArea)?;
+    refuse_if(area.len() != WORK_AREA, Reason::WorkArea)?;
     let keys = parameters.nonce(Some(tag_size), true, true)?;
     let stream = parameters.nonce(Some(tag_size), true, false)?;
     refuse_if(
@@ -82,7 +82,7 @@ pub fn nca5_open<G: Generator>(
 {
     let bits = ciphertext.bits;
     let mut area = WorkArea::new(work);
-    refuse_if(area.len() != LENGTH, Reason::WorkArea)?;
+    refuse_if(area.len() != WORK_AREA, Reason::WorkArea)?;
     let keys = parameters.nonce(Some(tag_size), true, true)?;
     let stream = parameters.nonce(Some(tag_size), true, false)?;
     let other_size = tag.len() != usize::from(tag_size);

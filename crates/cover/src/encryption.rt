@@ -7,7 +7,7 @@ ghost use Rattle.cover.specs.WorkArea.{wiped};
 
 use super::keystream::cover;
 use super::refusing::{refuse_if, refuse_short, unfilled};
-use super::work_area::{LENGTH, WorkArea};
+use super::work_area::{WORK_AREA, WorkArea};
 use generator::Generator;
 use nonces::Parameters;
 use units::{BitString, Bits, Reason, Refusal};
@@ -30,7 +30,7 @@ pub fn nea5<G: Generator>(
     ensures twice { Nea5Twice }
 {
     let mut area = WorkArea::new(work);
-    refuse_if(area.len() != LENGTH, Reason::WorkArea)?;
+    refuse_if(area.len() != WORK_AREA, Reason::WorkArea)?;
     let nonce = parameters.nonce(None, false, false)?;
     refuse_if(input.bits == Bits(0), Reason::BitLength)?;
     refuse_if(unfilled(input.bits, input.bytes), Reason::InputBytes)?;

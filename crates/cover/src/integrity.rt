@@ -8,7 +8,7 @@ ghost use Rattle.cover.specs.WorkArea.{wiped};
 
 use super::refusing::{refuse_if, refuse_short, unfilled};
 use super::tags::{KEYS, put_tag};
-use super::work_area::{LENGTH, WorkArea};
+use super::work_area::{WORK_AREA, WorkArea};
 use generator::Generator;
 use nonces::Parameters;
 use units::{BitString, Bits, Reason, Refusal};
@@ -37,7 +37,7 @@ pub fn nia5<G: Generator>(
     ensures tags { TwoTags }
 {
     let mut area = WorkArea::new(work);
-    refuse_if(area.len() != LENGTH, Reason::WorkArea)?;
+    refuse_if(area.len() != WORK_AREA, Reason::WorkArea)?;
     let nonce = parameters.nonce(Some(tag_size), false, true)?;
     refuse_if(text.bits == Bits(0), Reason::BitLength)?;
     refuse_if(unfilled(text.bits, text.bytes), Reason::InputBytes)?;

@@ -1,7 +1,7 @@
 //! The cover: NEA5, NIA5 and NCA5 over any generator of keystream.
 //!
 //! A call tests what it is given first, in the order of the refusals' numbers, and writes to an output only when nothing is
-//! refused. The caller lends it a work area of 64 bytes, which is zero afterwards on every way out.
+//! refused. The caller lends it a work area of `WORK_AREA` bytes, which is zero afterwards on every way out.
 #![tactic(auto)]
 
 pub mod combined;
@@ -15,3 +15,4 @@ mod work_area;
 pub use combined::{nca5_cover, nca5_open};
 pub use encryption::nea5;
 pub use integrity::nia5;
+pub use work_area::WORK_AREA;

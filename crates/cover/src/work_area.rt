@@ -1,4 +1,4 @@
-//! The work area: 64 bytes of the caller's that hold H, Q, P and the current block of keystream while a call needs them.
+//! The work area: bytes of the caller's that hold H, Q, P and the current block of keystream while a call needs them.
 ghost use Rattle.std.specs.Prelude.{◌≡◌, ℕ, ◌+◌, ◌≤◌, length, take};
 ghost use Rattle.units.specs.Strings.{same};
 ghost use Rattle.units.specs.Sums.{sums};
@@ -7,8 +7,8 @@ ghost use Rattle.cover.specs.WorkArea.{slot, wiped};
 
 use field::Block;
 
-/// How long a work area has to be.
-pub(crate) const LENGTH: usize = 64;
+/// How many bytes the work area of a call has to have. One of any other length is refused.
+pub const WORK_AREA: usize = 64;
 
 /// How long a block is.
 pub(crate) const BLOCK: usize = 16;
