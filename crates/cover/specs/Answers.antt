@@ -19,7 +19,7 @@ unlike a b = not (a == b)
 abbrev pub too_short : Meaning → List ℕ → ℕ → Option Refusal
 too_short m n need = refused (nat_lt (m.reach n) need) ShortKeystream Generator (m.reach n)
 
--- the answer to one who asks for no more than that
+-- the answer of a test: nothing, or its refusal
 abbrev pub told : Option Refusal → Result (Unit {0}) Refusal
 told None = Ok tt
 told (Some r) = Err r

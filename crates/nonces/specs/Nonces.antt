@@ -23,18 +23,18 @@ unfoldable pub nonce : ℕ → Bool → Bool → Parameters → List ℕ
 nonce t combined instance p =
     (t * 8 + bit combined * 4 + 0 * 2 + bit instance) ∷ (p.bearer * 2 + p.direction) ∷ (extra_bytes p.extra_iv ++ four p.count)
 
--- BEARER above 31 or DIRECTION above 1
-abbrev pub off_line : Parameters → Bool
-off_line p = nat_lt 31 p.bearer || nat_lt 1 p.direction
+-- BEARER outside 0 to 31, or DIRECTION outside 0 and 1
+abbrev pub line_outside : Parameters → Bool
+line_outside p = nat_lt 31 p.bearer || nat_lt 1 p.direction
 
 -- a tag size outside 4 to 16
-abbrev pub off_size : ℕ → Bool
-off_size t = nat_lt t 4 || nat_lt 16 t
+abbrev pub size_outside : ℕ → Bool
+size_outside t = nat_lt t 4 || nat_lt 16 t
 
 -- why there is no nonce: 2, and then 3, which concerns a message with a tag alone
 abbrev pub nonce_refusal : Option ℕ → Parameters → Option Refusal
-nonce_refusal None p = refused (off_line p) BearerDirection Cover 0
-nonce_refusal (Some t) p = refused (off_line p) BearerDirection Cover 0 ⊳ refused (off_size t) TagSize Cover 0
+nonce_refusal None p = refused (line_outside p) BearerDirection Cover 0
+nonce_refusal (Some t) p = refused (line_outside p) BearerDirection Cover 0 ⊳ refused (size_outside t) TagSize Cover 0
 
 -- a value, unless there is a refusal
 abbrev pub unless : Option Refusal → Nonce → Result Nonce Refusal
