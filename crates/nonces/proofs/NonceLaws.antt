@@ -53,5 +53,7 @@ nonces_differ t u c d i j p q f g e =
       bearer = bearer;
       direction = direction;
       extra_iv = sym (take_extra p.extra_iv (four p.count)) ∙ ap (take 6) rest ∙ take_extra q.extra_iv (four q.count);
-      count = four_tells p.count q.count f.count g.count (sym (drop_extra p.extra_iv (four p.count)) ∙ ap (drop 6) rest ∙ drop_extra q.extra_iv (four q.count));
+      count =
+          four_tells p.count q.count f.count g.count
+          (sym (drop_extra p.extra_iv (four p.count)) ∙ ap (drop 6) rest ∙ drop_extra q.extra_iv (four q.count));
     }
