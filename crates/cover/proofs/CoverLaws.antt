@@ -41,7 +41,7 @@ length_tag m n t aad_bits aad bits ciphertext h =
     length-take t (digits_l 256 16 v) ∙ ap (min t) (length_digits 16 v) ∙ omega arith
 
 -- what NCA5 covered is accepted, and gives the message
-pub covered_opens : CoveredOpens
+covered_opens : CoveredOpens
 covered_opens m work p t aad_bits aad bits message out tag_out buffer sound accepted room =
     let n = stream_nonce t p in
     let c = ciphertext_of m p t bits message in
@@ -68,7 +68,7 @@ fold-cleared : (h v n : ℕ) (xs : List ℕ) → fold h v n (cleared n xs) ≡ f
 unfolding fold
 fold-cleared h v n xs = ap (λ (l : List ℕ). folded h v (blocks l)) (cleared_again n xs)
 
-pub spare_ignored : SpareIgnored
+spare_ignored : SpareIgnored
 unfolding tag_under tag whole_tag
 spare_ignored =
     record {
@@ -76,7 +76,8 @@ spare_ignored =
       aad = λ m p t aad_bits aad bits ciphertext.
           let n = instance_nonce t p in
           let h = key_h m n in
-          ap (λ (v : ℕ). take t (block_bytes (pdot (fold h v bits ciphertext ⊕ lengths bits aad_bits) (key_q m n) ⊕ key_p m n))) (fold-cleared h 0 aad_bits aad);
+          ap (λ (v : ℕ). take t (block_bytes (pdot (fold h v bits ciphertext ⊕ lengths bits aad_bits) (key_q m n) ⊕ key_p m n)))
+          (fold-cleared h 0 aad_bits aad);
     }
 
 pub nca5_stands : Nca5Stands

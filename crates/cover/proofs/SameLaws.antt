@@ -21,7 +21,10 @@ use Rattle.cover.proofs.StreamLaws.{covered_same}
 use Rattle.cover.proofs.TagLaws.{tag_same}
 
 -- what would be written counts where nothing is refused
-written_same : (r : Option Refusal) (before after after' : List ℕ) → (r ≡ None → after' ≡ after) → written r before after' ≡ written r before after
+written_same :
+    (r : Option Refusal) (before after after' : List ℕ)
+    → (r ≡ None → after' ≡ after)
+    → written r before after' ≡ written r before after
 written_same None before after after' f = ap (outcome (told None)) (f refl)
 written_same (Some r) before after after' f = refl
 
@@ -40,10 +43,14 @@ tag_under_same : (m m' : Meaning) (n : List ℕ) (t aad_bits : ℕ) (aad : List 
     → tag_under m' n t aad_bits aad bits ciphertext ≡ tag_under m n t aad_bits aad bits ciphertext
 unfolding tag_under tag
 tag_under_same m m' n t aad_bits aad bits ciphertext s h =
-    tag_same m m' n t aad_bits aad bits ciphertext (block_bytes (whole_tag (key_h m' n) (key_q m' n) (key_p m' n) aad_bits aad bits ciphertext)) s h refl
+    tag_same m m' n t aad_bits aad bits ciphertext
+    (block_bytes (whole_tag (key_h m' n) (key_q m' n) (key_p m' n) aad_bits aad bits ciphertext))
+    s h refl
 
 -- NEA5 answers and writes the same
-pub nea5_same : (m m' : Meaning) (work : ℕ) (p : Parameters) (bits : ℕ) (input output : List ℕ) → Same m m' → nea5 m' work p bits input output ≡ nea5 m work p bits input output
+pub nea5_same :
+    (m m' : Meaning) (work : ℕ) (p : Parameters) (bits : ℕ) (input output : List ℕ) → Same m m'
+    → nea5 m' work p bits input output ≡ nea5 m work p bits input output
 nea5_same m m' work p bits input output s =
     let n = nea5_nonce p in
     let alike : nea5_refusal m work p bits input output ≡ None → covered m' n bits input ≡ covered m n bits input =
@@ -63,10 +70,13 @@ nca5_cover_same m m' work p t aad_bits aad bits message ciphertext tag s =
     let c' = covered m' stream bits message in
     let covered_alike : refusal ≡ None → c' ≡ c = λ accepted. covered_same m m' stream bits message s (grind (arith, nat_tests, accepted)) in
     let tags_alike : refusal ≡ None → tag_of m' p t aad_bits aad bits c' ≡ tag_of m p t aad_bits aad bits c =
-    λ accepted. ap (tag_of m' p t aad_bits aad bits) (covered_alike accepted) ∙ tag_under_same m m' keys t aad_bits aad bits c s (grind (arith, nat_tests, accepted))
+    λ accepted.
+    ap (tag_of m' p t aad_bits aad bits) (covered_alike accepted)
+    ∙ tag_under_same m m' keys t aad_bits aad bits c s (grind (arith, nat_tests, accepted))
     in
     rw (s.reach keys, s.reach stream)
-    (both_written_same refusal ciphertext tag c (tag_of m p t aad_bits aad bits c) c' (tag_of m' p t aad_bits aad bits c') (λ accepted. (covered_alike accepted, tags_alike accepted)))
+    (both_written_same refusal ciphertext tag c (tag_of m p t aad_bits aad bits c) c' (tag_of m' p t aad_bits aad bits c')
+    (λ accepted. (covered_alike accepted, tags_alike accepted)))
 
 -- and opening
 pub nca5_open_same :
@@ -79,7 +89,9 @@ nca5_open_same m m' work p t aad_bits aad bits ciphertext tag message s =
     let wrong = wrong_tag m p t aad_bits aad bits ciphertext tag in
     let wrong' = wrong_tag m' p t aad_bits aad bits ciphertext tag in
     let tags_alike : short ≡ None → wrong' ≡ wrong =
-    λ near. ap (λ (u : List ℕ). refused_here (not (same tag u)) WrongTag) (tag_under_same m m' keys t aad_bits aad bits ciphertext s (grind (arith, nat_tests, near)))
+    λ near.
+    ap (λ (u : List ℕ). refused_here (not (same tag u)) WrongTag)
+    (tag_under_same m m' keys t aad_bits aad bits ciphertext s (grind (arith, nat_tests, near)))
     in
     let late : (too_short_for m' p t bits ⊳ wrong') ≡ (short ⊳ wrong) = rw (s.reach keys, s.reach stream) (later_same short wrong wrong' tags_alike) in
     let refusal = open_refusal m work p t aad_bits aad bits ciphertext tag message in

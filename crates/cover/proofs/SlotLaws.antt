@@ -25,7 +25,13 @@ unfolding block_bytes
 block_back xs = digits_back 16 xs
 
 -- one byte more of a sum
-pub sums_more : (xs ys old : List ℕ) (i : ℕ) → i < length xs → length xs ≤ length ys → length old ≡ length xs → take i old ≡ take i (sums xs ys) → take (i + 1) (set old i (get_or xs i 0 ⊕ get_or ys i 0)) ≡ take (i + 1) (sums xs ys)
+pub sums_more :
+    (xs ys old : List ℕ) (i : ℕ)
+    → i < length xs
+    → length xs ≤ length ys
+    → length old ≡ length xs
+    → take i old ≡ take i (sums xs ys)
+    → take (i + 1) (set old i (get_or xs i 0 ⊕ get_or ys i 0)) ≡ take (i + 1) (sums xs ys)
 sums_more xs ys old i h k e b =
     take_more_set old i (get_or xs i 0 ⊕ get_or ys i 0) (omega arith)
     ∙ ap (λ (l : List ℕ). l ++ (get_or xs i 0 ⊕ get_or ys i 0) ∷ []) b
@@ -39,7 +45,13 @@ sums_more xs ys old i h k e b =
     each (suc i) (x ∷ xs) (y ∷ ys) h k = each i xs ys (omega arith) (omega arith)
 
 -- all bytes of it
-pub sums_whole : (xs ys sum : List ℕ) (i : ℕ) → length xs ≤ i → length xs ≤ length ys → length sum ≡ length xs → take i sum ≡ take i (sums xs ys) → sum ≡ sums xs ys
+pub sums_whole :
+    (xs ys sum : List ℕ) (i : ℕ)
+    → length xs ≤ i
+    → length xs ≤ length ys
+    → length sum ≡ length xs
+    → take i sum ≡ take i (sums xs ys)
+    → sum ≡ sums xs ys
 sums_whole xs ys sum i n h e b = sym (take_all i sum (omega arith)) ∙ b ∙ take_all i (sums xs ys) (omega (arith, length-sums xs ys h))
 
 -- ---- places

@@ -23,20 +23,33 @@ unfolding difference
 difference_none xs ys = refl
 
 -- one byte more
-pub difference_more : (n : ℕ) (xs ys : List ℕ) → n < length xs → n < length ys → bit_or (difference n xs ys) (get_or xs n 0 ⊕ get_or ys n 0) ≡ difference (n + 1) xs ys
+pub difference_more :
+    (n : ℕ) (xs ys : List ℕ)
+    → n < length xs
+    → n < length ys
+    → bit_or (difference n xs ys) (get_or xs n 0 ⊕ get_or ys n 0) ≡ difference (n + 1) xs ys
 unfolding difference
 difference_more n xs ys h k = rw add-one (more 0 n xs ys h k)
   where
-    more : (d n : ℕ) (xs ys : List ℕ) → n < length xs → n < length ys → bit_or (fold bit_or d (sums (take n xs) ys)) (get_or xs n 0 ⊕ get_or ys n 0) ≡ fold bit_or d (sums (take (suc n) xs) ys)
+    more : (d n : ℕ) (xs ys : List ℕ)
+        → n < length xs
+        → n < length ys
+        → bit_or (fold bit_or d (sums (take n xs) ys)) (get_or xs n 0 ⊕ get_or ys n 0) ≡ fold bit_or d (sums (take (suc n) xs) ys)
     more d n [] ys h k = absurd (omega arith)
     more d n (x ∷ xs) [] h k = absurd (omega arith)
     more d zero (x ∷ xs) (y ∷ ys) h k = refl
     more d (suc n) (x ∷ xs) (y ∷ ys) h k = more (bit_or d (x ⊕ y)) n xs ys (omega arith) (omega arith)
 
 -- there are no such bits exactly where the one begins with the other
-pub difference_tells : (n : ℕ) (xs ys : List ℕ) → n ≡ length xs → length xs ≤ length ys → (difference n xs ys == 0) ≡ same xs (take (length xs) ys)
+pub difference_tells :
+    (n : ℕ) (xs ys : List ℕ)
+    → n ≡ length xs
+    → length xs ≤ length ys
+    → (difference n xs ys == 0) ≡ same xs (take (length xs) ys)
 unfolding difference
-difference_tells n xs ys e h = ap (λ (l : List ℕ). united (sums l ys) == 0) (take_all n xs (omega arith)) ∙ same_from_decides (united (sums xs ys) == 0) (same xs (take (length xs) ys)) none_is (same_tells xs (take (length xs) ys))
+difference_tells n xs ys e h =
+    ap (λ (l : List ℕ). united (sums l ys) == 0) (take_all n xs (omega arith))
+    ∙ same_from_decides (united (sums xs ys) == 0) (same xs (take (length xs) ys)) none_is (same_tells xs (take (length xs) ys))
   where
     alike : (xs ys : List ℕ) → length xs ≤ length ys → ((k : ℕ) → get_or (sums xs ys) k 0 ≡ 0) → xs ≡ take (length xs) ys
     alike [] ys h z = refl

@@ -92,13 +92,20 @@ CoveredOpens =
     → Sound m
     → cover_refusal m work p t aad_bits aad bits message ciphertext tag ≡ None
     → length buffer ≡ filled bits
-    → nca5_open m work p t aad_bits aad bits (nca5_cover m work p t aad_bits aad bits message ciphertext tag).ciphertext (nca5_cover m work p t aad_bits aad bits message ciphertext tag).tag buffer
+    → nca5_open m work p t aad_bits aad bits
+    (nca5_cover m work p t aad_bits aad bits message ciphertext tag).ciphertext
+    (nca5_cover m work p t aad_bits aad bits message ciphertext tag).tag
+    buffer
     ≡ record { answer = Ok tt; output = cleared bits message }
 
 -- the spare bits of AAD and message make no difference
 pub record SpareIgnored : Type 0 where
-  pub message : (m : Meaning) (p : Parameters) (t bits : ℕ) (message : List ℕ) → ciphertext_of m p t bits (cleared bits message) ≡ ciphertext_of m p t bits message
-  pub aad : (m : Meaning) (p : Parameters) (t aad_bits : ℕ) (aad : List ℕ) (bits : ℕ) (ciphertext : List ℕ) → tag_of m p t aad_bits (cleared aad_bits aad) bits ciphertext ≡ tag_of m p t aad_bits aad bits ciphertext
+  pub message :
+      (m : Meaning) (p : Parameters) (t bits : ℕ) (message : List ℕ)
+      → ciphertext_of m p t bits (cleared bits message) ≡ ciphertext_of m p t bits message
+  pub aad :
+      (m : Meaning) (p : Parameters) (t aad_bits : ℕ) (aad : List ℕ) (bits : ℕ) (ciphertext : List ℕ)
+      → tag_of m p t aad_bits (cleared aad_bits aad) bits ciphertext ≡ tag_of m p t aad_bits aad bits ciphertext
 
 -- what holds of NCA5
 pub record Nca5Stands : Type 0 where
