@@ -33,23 +33,23 @@ abbrev pub number_of : Result (Unit {0}) Refusal → ℕ
 number_of (Ok v) = 0
 number_of (Err r) = number r.reason
 
--- what a call tells: that number, and then what the buffer holds
-abbrev pub told : Written → List ℕ
-told w = number_of w.answer ∷ w.output
+-- what is shown of a call: that number, and then what the buffer holds
+abbrev pub shown : Written → List ℕ
+shown w = number_of w.answer ∷ w.output
 
 -- the same where there are two buffers, for ciphertext and tag
-abbrev pub told_of_both : Covering → List ℕ
-told_of_both c = number_of c.answer ∷ (c.ciphertext ++ c.tag)
+abbrev pub both_shown : Covering → List ℕ
+both_shown c = number_of c.answer ∷ (c.ciphertext ++ c.tag)
 
 -- a tag of 16 bytes by NIA5 over so many bits
 abbrev pub flat_nia5 : ℕ → List ℕ → List ℕ
-flat_nia5 bits text = told (nia5 flat 64 (parameters 0 0 0) 16 bits text (replicate 16 0))
+flat_nia5 bits text = shown (nia5 flat 64 (parameters 0 0 0) 16 bits text (replicate 16 0))
 
 -- so many bits covered by NCA5 without AAD, with a tag of 4 bytes, into two buffers
 abbrev pub flat_cover : ℕ → List ℕ → List ℕ → List ℕ → List ℕ
 flat_cover bits message ciphertext tag =
-    told_of_both (nca5_cover flat 64 (parameters 0 0 0) 4 0 [] bits message ciphertext tag)
+    both_shown (nca5_cover flat 64 (parameters 0 0 0) 4 0 [] bits message ciphertext tag)
 
 -- 13 bits opened by NCA5 without AAD, with a tag of 4 bytes, into 00 00
 abbrev pub flat_open : List ℕ → List ℕ → List ℕ
-flat_open ciphertext tag = told (nca5_open flat 64 (parameters 0 0 0) 4 0 [] 13 ciphertext tag (0 ∷ 0 ∷ []))
+flat_open ciphertext tag = shown (nca5_open flat 64 (parameters 0 0 0) 4 0 [] 13 ciphertext tag (0 ∷ 0 ∷ []))

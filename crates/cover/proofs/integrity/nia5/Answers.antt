@@ -12,7 +12,8 @@ returns-clause-outcome g c =
     let enough : 3 ≤ m.reach n = search rules in
     let made : c.copy_to.new.tag ≡ tag_under m n (length c.args.tag.now) bits text 0 [] =
     c.copy_to.ensures
-    ∙ tag_same m (g.G.Generator.meaning c.refuse_short.new.generator) n (length c.args.tag.now) bits text 0 [] _ c.refuse_short.ensures.same enough c.put_tag.ensures.tag
+    ∙ tag_same m (g.G.Generator.meaning c.refuse_short.new.generator) n (length c.args.tag.now) bits text 0 [] _
+    c.refuse_short.ensures.same enough c.put_tag.ensures.tag
     in
     let size : length c.args.tag.now ≡ c.args.tag_size = search rules in
     search rules
