@@ -8,36 +8,38 @@ use Rattle.cover.specs.Combined.{covering, nca5_cover, nca5_open}
 use Rattle.cover.specs.Encryption.{nea5}
 use Rattle.cover.proofs.SameLaws.{nca5_cover_same, nca5_open_same, nea5_same}
 use Rattle.aes_generator.specs.AesGenerator.{aes_meaning}
-use Rattle.bench.specs.Turns.{covered, encrypted, opened, parameters, tag_size}
+use Rattle.bench.specs.Turns.{covered_turns, encrypted_turns, opened_turns, parameters, tag_size}
 
 -- of NEA5
 pub encrypted_more :
-    (key key' : List ℕ) (count turn work : ℕ) (p : Parameters) (bits : ℕ) (input output before after : List ℕ) (answer : Result (Unit {0}) Refusal)
+    (key key' : List ℕ) (count turn work : ℕ) (p : Parameters) (bits : ℕ) (input output before after : List ℕ)
+    (answer : Result (Unit {0}) Refusal)
     → Same (aes_meaning key) (aes_meaning key')
     → work ≡ 64
     → p ≡ parameters ((count + turn) % 2 ^ 32)
-    → before ≡ encrypted turn key count bits input output
+    → before ≡ encrypted_turns turn key count bits input output
     → outcome answer after ≡ nea5 (aes_meaning key') work p bits input before
-    → after ≡ encrypted (turn + 1) key count bits input output
+    → after ≡ encrypted_turns (turn + 1) key count bits input output
 encrypted_more key key' count turn work p bits input output before after answer s w q b e =
     let m = aes_meaning key in
     ap (λ (x : Written). x.output) (e ∙ nea5_same m (aes_meaning key') work p bits input before s)
     ∙ ap₂ (λ (v : ℕ) (r : Parameters). (nea5 m v r bits input before).output) w q
     ∙ ap (λ (l : List ℕ). (nea5 m 64 (parameters ((count + turn) % 2 ^ 32)) bits input l).output) b
-    ∙ ap (λ (n : ℕ). encrypted n key count bits input output) (sym (add-one turn))
+    ∙ ap (λ (n : ℕ). encrypted_turns n key count bits input output) (sym (add-one turn))
 
 -- of NCA5, covering
 pub covered_more :
-    (key key' : List ℕ) (count turn work : ℕ) (p : Parameters) (t aad_bits : ℕ) (aad : List ℕ) (bits : ℕ) (message ciphertext tag c u c_after u_after : List ℕ)
+    (key key' : List ℕ) (count turn work : ℕ) (p : Parameters) (t aad_bits : ℕ) (aad : List ℕ) (bits : ℕ)
+    (message ciphertext tag c u c_after u_after : List ℕ)
     (answer : Result (Unit {0}) Refusal)
     → Same (aes_meaning key) (aes_meaning key')
     → work ≡ 64
     → p ≡ parameters count
     → t ≡ tag_size (length tag)
-    → c ≡ (covered turn key count aad_bits aad bits message ciphertext tag).ciphertext
-    → u ≡ (covered turn key count aad_bits aad bits message ciphertext tag).tag
+    → c ≡ (covered_turns turn key count aad_bits aad bits message ciphertext tag).ciphertext
+    → u ≡ (covered_turns turn key count aad_bits aad bits message ciphertext tag).tag
     → covering answer c_after u_after ≡ nca5_cover (aes_meaning key') work p t aad_bits aad bits message c u
-    → covering answer c_after u_after ≡ covered (turn + 1) key count aad_bits aad bits message ciphertext tag
+    → covering answer c_after u_after ≡ covered_turns (turn + 1) key count aad_bits aad bits message ciphertext tag
 covered_more key key' count turn work p t aad_bits aad bits message ciphertext tag c u c_after u_after answer s w q z b d e =
     let m = aes_meaning key in
     e
@@ -45,23 +47,24 @@ covered_more key key' count turn work p t aad_bits aad bits message ciphertext t
     ∙ ap₂ (λ (v : ℕ) (r : Parameters). nca5_cover m v r t aad_bits aad bits message c u) w q
     ∙ ap (λ (v : ℕ). nca5_cover m 64 (parameters count) v aad_bits aad bits message c u) z
     ∙ ap₂ (λ (l k : List ℕ). nca5_cover m 64 (parameters count) (tag_size (length tag)) aad_bits aad bits message l k) b d
-    ∙ ap (λ (n : ℕ). covered n key count aad_bits aad bits message ciphertext tag) (sym (add-one turn))
+    ∙ ap (λ (n : ℕ). covered_turns n key count aad_bits aad bits message ciphertext tag) (sym (add-one turn))
 
 -- and opening
 pub opened_more :
-    (key key' : List ℕ) (count turn work : ℕ) (p : Parameters) (t aad_bits : ℕ) (aad : List ℕ) (bits : ℕ) (ciphertext tag message before after : List ℕ)
+    (key key' : List ℕ) (count turn work : ℕ) (p : Parameters) (t aad_bits : ℕ) (aad : List ℕ) (bits : ℕ)
+    (ciphertext tag message before after : List ℕ)
     (answer : Result (Unit {0}) Refusal)
     → Same (aes_meaning key) (aes_meaning key')
     → work ≡ 64
     → p ≡ parameters count
     → t ≡ tag_size (length tag)
-    → before ≡ opened turn key count aad_bits aad bits ciphertext tag message
+    → before ≡ opened_turns turn key count aad_bits aad bits ciphertext tag message
     → outcome answer after ≡ nca5_open (aes_meaning key') work p t aad_bits aad bits ciphertext tag before
-    → after ≡ opened (turn + 1) key count aad_bits aad bits ciphertext tag message
+    → after ≡ opened_turns (turn + 1) key count aad_bits aad bits ciphertext tag message
 opened_more key key' count turn work p t aad_bits aad bits ciphertext tag message before after answer s w q z b e =
     let m = aes_meaning key in
     ap (λ (x : Written). x.output) (e ∙ nca5_open_same m (aes_meaning key') work p t aad_bits aad bits ciphertext tag before s)
     ∙ ap₂ (λ (v : ℕ) (r : Parameters). (nca5_open m v r t aad_bits aad bits ciphertext tag before).output) w q
     ∙ ap (λ (v : ℕ). (nca5_open m 64 (parameters count) v aad_bits aad bits ciphertext tag before).output) z
     ∙ ap (λ (l : List ℕ). (nca5_open m 64 (parameters count) (tag_size (length tag)) aad_bits aad bits ciphertext tag l).output) b
-    ∙ ap (λ (n : ℕ). opened n key count aad_bits aad bits ciphertext tag message) (sym (add-one turn))
+    ∙ ap (λ (n : ℕ). opened_turns n key count aad_bits aad bits ciphertext tag message) (sym (add-one turn))

@@ -20,22 +20,22 @@ abbrev pub tag_size : ℕ → ℕ
 tag_size bytes = min bytes 255
 
 -- the output after n turns of NEA5, each under the count after that of the turn before
-abbrev pub encrypted : ℕ → List ℕ → ℕ → ℕ → List ℕ → List ℕ → List ℕ
-encrypted zero key count bits input output = output
-encrypted (suc n) key count bits input output =
-    (nea5 (aes_meaning key) 64 (parameters ((count + n) % 2 ^ 32)) bits input (encrypted n key count bits input output)).output
+abbrev pub encrypted_turns : ℕ → List ℕ → ℕ → ℕ → List ℕ → List ℕ → List ℕ
+encrypted_turns zero key count bits input output = output
+encrypted_turns (suc n) key count bits input output =
+    (nea5 (aes_meaning key) 64 (parameters ((count + n) % 2 ^ 32)) bits input (encrypted_turns n key count bits input output)).output
 
 -- the buffers for ciphertext and tag after n turns of NCA5, covering; and the last answer
-abbrev pub covered : ℕ → List ℕ → ℕ → ℕ → List ℕ → ℕ → List ℕ → List ℕ → List ℕ → Covering
-covered zero key count aad_bits aad bits message ciphertext tag = covering (Ok tt) ciphertext tag
-covered (suc n) key count aad_bits aad bits message ciphertext tag =
+abbrev pub covered_turns : ℕ → List ℕ → ℕ → ℕ → List ℕ → ℕ → List ℕ → List ℕ → List ℕ → Covering
+covered_turns zero key count aad_bits aad bits message ciphertext tag = covering (Ok tt) ciphertext tag
+covered_turns (suc n) key count aad_bits aad bits message ciphertext tag =
     nca5_cover (aes_meaning key) 64 (parameters count) (tag_size (length tag)) aad_bits aad bits message
-    (covered n key count aad_bits aad bits message ciphertext tag).ciphertext
-    (covered n key count aad_bits aad bits message ciphertext tag).tag
+    (covered_turns n key count aad_bits aad bits message ciphertext tag).ciphertext
+    (covered_turns n key count aad_bits aad bits message ciphertext tag).tag
 
 -- the buffer for the message after n turns of NCA5, opening
-abbrev pub opened : ℕ → List ℕ → ℕ → ℕ → List ℕ → ℕ → List ℕ → List ℕ → List ℕ → List ℕ
-opened zero key count aad_bits aad bits ciphertext tag message = message
-opened (suc n) key count aad_bits aad bits ciphertext tag message =
+abbrev pub opened_turns : ℕ → List ℕ → ℕ → ℕ → List ℕ → ℕ → List ℕ → List ℕ → List ℕ → List ℕ
+opened_turns zero key count aad_bits aad bits ciphertext tag message = message
+opened_turns (suc n) key count aad_bits aad bits ciphertext tag message =
     (nca5_open (aes_meaning key) 64 (parameters count) (tag_size (length tag)) aad_bits aad bits ciphertext tag
-    (opened n key count aad_bits aad bits ciphertext tag message)).output
+    (opened_turns n key count aad_bits aad bits ciphertext tag message)).output

@@ -1,7 +1,7 @@
 //! The calls that cover and open a message many times over, for C. Their generator, AES, is made once from the key, so that the
 //! time of a message can be told from that of a key.
 ghost use Rattle.std.specs.Prelude.{◌≡◌};
-ghost use Rattle.bench.specs.Turns.{covered, encrypted, opened, parameters, tag_size};
+ghost use Rattle.bench.specs.Turns.{covered_turns, encrypted_turns, opened_turns, parameters, tag_size};
 
 use super::bit_string;
 use aes_generator::AesGenerator;
@@ -21,7 +21,7 @@ pub extern "C" fn bench_nea5(
     input: &[u8],
     output: &mut [u8],
 )
-    ensures { output.new ≡ encrypted turns key.now count bits input.now output.old }
+    ensures { output.new ≡ encrypted_turns turns key.now count bits input.now output.old }
 {
     let mut generator = AesGenerator::new(&Key(*key));
     let mut work = [0; WORK_AREA];
@@ -51,8 +51,8 @@ pub extern "C" fn bench_nca5_cover(
     ciphertext: &mut [u8],
     tag: &mut [u8],
 )
-    ensures ciphertext { ciphertext.new ≡ (covered turns key.now count aad_bits aad.now bits message.now ciphertext.old tag.old).ciphertext }
-    ensures tag { tag.new ≡ (covered turns key.now count aad_bits aad.now bits message.now ciphertext.old tag.old).tag }
+    ensures ciphertext { ciphertext.new ≡ (covered_turns turns key.now count aad_bits aad.now bits message.now ciphertext.old tag.old).ciphertext }
+    ensures tag { tag.new ≡ (covered_turns turns key.now count aad_bits aad.now bits message.now ciphertext.old tag.old).tag }
 {
     let mut generator = AesGenerator::new(&Key(*key));
     let mut work = [0; WORK_AREA];
@@ -86,7 +86,7 @@ pub extern "C" fn bench_nca5_open(
     tag: &[u8],
     message: &mut [u8],
 )
-    ensures { message.new ≡ opened turns key.now count aad_bits aad.now bits ciphertext.now tag.now message.old }
+    ensures { message.new ≡ opened_turns turns key.now count aad_bits aad.now bits ciphertext.now tag.now message.old }
 {
     let mut generator = AesGenerator::new(&Key(*key));
     let mut work = [0; WORK_AREA];

@@ -14,11 +14,13 @@ loop-preserved c =
     let m = aes_meaning l.generator.aes.key in
     let size : t ≡ tag_size (length c.args.tag.now) = search rules in
     let answered =
-    rw (c.bit_string.ensures.bits, c.bit_string.ensures.bytes, c.bit_string-in-loop.ensures.bits, c.bit_string-in-loop.ensures.bytes) at c.nca5_open.ensures.outcome
+    rw (c.bit_string.ensures.bits, c.bit_string.ensures.bytes, c.bit_string-in-loop.ensures.bits, c.bit_string-in-loop.ensures.bytes)
+    at c.nca5_open.ensures.outcome
     in
     record {
       same = Same-trans (aes_meaning key) m (aes_meaning c.nca5_open.new.generator.aes.key) l.invariant.same c.nca5_open.ensures.same;
       work = search rules;
       message =
-          opened_more key l.generator.aes.key _ l.counter _ _ _ _ _ _ _ _ c.args.message.now _ _ _ l.invariant.same l.invariant.work c.parameters-parameters.ensures size l.invariant.message answered;
+          opened_more key l.generator.aes.key _ l.counter _ _ _ _ _ _ _ _ c.args.message.now _ _ _ l.invariant.same l.invariant.work
+          c.parameters-parameters.ensures size l.invariant.message answered;
     }

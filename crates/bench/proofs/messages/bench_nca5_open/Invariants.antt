@@ -1,12 +1,12 @@
 use Rattle.std.proofs.Common.{◌≡◌, length}
 use Rattle.generator.specs.Generators.{Same}
 use Rattle.aes_generator.specs.AesGenerator.{aes_meaning}
-use Rattle.bench.specs.Turns.{opened}
+use Rattle.bench.specs.Turns.{opened_turns}
 use Rattle.bench.proofs.messages.bench_nca5_open.Given as goal
 
 abbrev pub invariant-loop : goal.invariant-loop
 invariant-loop l = record {
   same : Same (aes_meaning l.key) (aes_meaning l.generator.aes.key);
   work : length l.work ≡ 64;
-  message : l.message ≡ opened l.counter l.key l.count l.aad_bits l.aad l.bits l.ciphertext l.tag l.fn.message;
+  message : l.message ≡ opened_turns l.counter l.key l.count l.aad_bits l.aad l.bits l.ciphertext l.tag l.fn.message;
 }
