@@ -2,7 +2,7 @@
 #[cfg(test)]
 mod tests {
     use aes_generator::AesGenerator;
-    use cover::{nca5_cover, nca5_open};
+    use cover::{WORK_AREA, nca5_cover, nca5_open};
     use generator::{Key, Pair};
     use nonces::Parameters;
     use std::test::Fail;
@@ -31,14 +31,41 @@ mod tests {
         }
     }
 
-    // A pair with a lent half covers, and a pair of its own opens. The message comes without its spare bits, and the work
-    // area is zero.
+    // The ciphertext and the tag of MESSAGE under KEY and the count 3.
+    fn covered() -> Result<([u8; 2], [u8; 4]), Refusal> {
+        let mut generator = AesGenerator::new(&KEY);
+        let mut work = [0; WORK_AREA];
+        let mut ciphertext = [0; 2];
+        let mut tag = [0; 4];
+        nca5_cover(
+            &mut generator,
+            &mut work,
+            &parameters(3),
+            4,
+            AAD,
+            MESSAGE,
+            &mut ciphertext,
+            &mut tag,
+        )?;
+        Ok((ciphertext, tag))
+    }
+
+    fn refused(reason: Reason) -> Result<(), Refusal> {
+        Err(Refusal {
+            reason,
+            layer: Layer::Cover,
+            place: 0,
+        })
+    }
+
+    // A pair with a lent half covers a message, and a pair of its own, with the halves the other way round, opens it. The
+    // message comes without its spare bits. The work area, ones before each call, is zero after it.
     #[test]
     fn there_and_back(rt: HostRuntime) -> Result<(), Fail> {
         let mut other = AesGenerator::new(&OTHER_KEY);
         let mut ours = Pair::new(AesGenerator::new(&KEY), &mut other);
         let mut theirs = Pair::new(AesGenerator::new(&OTHER_KEY), AesGenerator::new(&KEY));
-        let mut work = [1; 64];
+        let mut work = [1; WORK_AREA];
         let mut ciphertext = [0; 2];
         let mut tag = [0; 8];
         let message = &mut [0; 2];
@@ -53,7 +80,8 @@ mod tests {
             &mut ciphertext,
             &mut tag,
         )?;
-        assert_eq!(rt; work, [0; 64]);
+        assert_eq!(rt; work, [0; WORK_AREA]);
+        work = [1; WORK_AREA];
         let covered = BitString {
             bits: MESSAGE.bits,
             bytes: &ciphertext,
@@ -69,64 +97,57 @@ mod tests {
             message,
         )?;
         assert_eq!(rt; *message, [0xAB, 0xC8]);
+        assert_eq!(rt; work, [0; WORK_AREA]);
         Ok(())
     }
 
-    // Another count is refused, and the place for the message stays. So it does where the work area is too long, all of
-    // which is zero then.
+    // Under another count the tag is wrong. The place for the message stays as it was.
     #[test]
-    fn refused(rt: HostRuntime) -> Result<(), Fail> {
+    fn wrong_count_refused(rt: HostRuntime) -> Result<(), Fail> {
+        let (ciphertext, tag) = covered()?;
         let mut generator = AesGenerator::new(&KEY);
-        let mut work = [1; 65];
-        let mut ciphertext = [0; 2];
-        let mut tag = [0; 4];
+        let mut work = [1; WORK_AREA];
         let message = &mut [9; 2];
-        let refusal = |reason| {
-            Err(Refusal {
-                reason,
-                layer: Layer::Cover,
-                place: 0,
-            })
-        };
-        nca5_cover(
-            &mut generator,
-            &mut work[..64],
-            &parameters(3),
-            4,
-            AAD,
-            MESSAGE,
-            &mut ciphertext,
-            &mut tag,
-        )?;
-        let covered = BitString {
-            bits: MESSAGE.bits,
-            bytes: &ciphertext,
-        };
-        let late = parameters(4);
-        let answer = nca5_open(
-            &mut generator,
-            &mut work[..64],
-            &late,
-            4,
-            AAD,
-            covered,
-            &tag,
-            message,
-        );
-        assert_eq!(rt; answer, refusal(Reason::WrongTag));
-        assert_eq!(rt; *message, [9; 2]);
-        let under = parameters(3);
         let answer = nca5_open(
             &mut generator,
             &mut work,
-            &under,
+            &parameters(4),
             4,
             AAD,
-            covered,
+            BitString {
+                bits: MESSAGE.bits,
+                bytes: &ciphertext,
+            },
             &tag,
             message,
         );
-        assert_eq!(rt; answer, refusal(Reason::WorkArea));
+        assert_eq!(rt; answer, refused(Reason::WrongTag));
+        assert_eq!(rt; *message, [9; 2]);
+        assert_eq!(rt; work, [0; WORK_AREA]);
+        Ok(())
+    }
+
+    // A work area of a byte too many is refused, and all of it is zero then. The place for the message stays as it was.
+    #[test]
+    fn long_work_area_refused(rt: HostRuntime) -> Result<(), Fail> {
+        let (ciphertext, tag) = covered()?;
+        let mut generator = AesGenerator::new(&KEY);
+        let mut work = [1; 65];
+        let message = &mut [9; 2];
+        let answer = nca5_open(
+            &mut generator,
+            &mut work,
+            &parameters(3),
+            4,
+            AAD,
+            BitString {
+                bits: MESSAGE.bits,
+                bytes: &ciphertext,
+            },
+            &tag,
+            message,
+        );
+        assert_eq!(rt; answer, refused(Reason::WorkArea));
         assert_eq!(rt; *message, [9; 2]);
         assert_eq!(rt; work, [0; 65]);
         Ok(())

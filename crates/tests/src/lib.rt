@@ -3,5 +3,6 @@
 
 mod covers;
 mod generators;
+mod known_values;
 mod recordings;
 mod refusals;

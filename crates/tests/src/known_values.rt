@@ -1,0 +1,12 @@
+//! The values that are known beforehand.
+#[cfg(test)]
+mod tests {
+    use known::known_values;
+    use std::test::Fail;
+
+    #[test]
+    fn sixteen(rt: HostRuntime) -> Result<(), Fail> {
+        assert_eq!(rt; known_values(), 16);
+        Ok(())
+    }
+}
