@@ -29,6 +29,7 @@ impl Setting {
     }
 }
 
+/// Takes the parameters of a message from the fields.
 fn message_parameters<'a>(fields: &mut Fields<'a>) -> Result<Parameters, Unreadable<'a>> {
     Ok(Parameters {
         count: fields.number("count", 0..=u32::MAX)?,
@@ -42,59 +43,49 @@ fn message_parameters<'a>(fields: &mut Fields<'a>) -> Result<Parameters, Unreada
 pub fn nea5<'a>(fields: &mut Fields<'a>) -> Result<Result<Vec<u8>, Refusal>, Unreadable<'a>> {
     let setting = Setting::take(fields)?;
     let data = fields.any_bit_string("bits", "data")?;
-    let mut out = fields.room("room", data.byte_length())?;
-    Ok(cover_data(setting, &data, out.as_mut_slice()).map(|()| out))
+    let out = fields.room("room", data.byte_length())?;
+    Ok(setting.and_then(|setting| cover_data(setting, data, out)))
 }
 
-fn cover_data(
-    setting: Result<Setting, Refusal>,
-    data: &BitField,
-    out: &mut [u8],
-) -> Result<(), Refusal> {
-    let Setting {
-        sources,
-        parameters,
-        mut work,
-    } = setting?;
-    let mut generator = sources.generator();
+/// Fills the buffer with data covered.
+fn cover_data(mut setting: Setting, data: BitField, mut out: Vec<u8>) -> Result<Vec<u8>, Refusal> {
+    let mut generator = setting.sources.generator();
     cover::nea5(
         &mut generator,
-        work.as_mut_slice(),
-        &parameters,
+        setting.work.as_mut_slice(),
+        &setting.parameters,
         data.as_bit_string(),
-        out,
-    )
+        out.as_mut_slice(),
+    )?;
+    Ok(out)
 }
 
 /// The tag of NIA5 over a text.
 pub fn nia5<'a>(fields: &mut Fields<'a>) -> Result<Result<Vec<u8>, Refusal>, Unreadable<'a>> {
     let setting = Setting::take(fields)?;
     let size = fields.byte("t")?;
-    let data = fields.any_bit_string("bits", "data")?;
-    let mut tag = fields.room("room", usize::from(size))?;
-    Ok(tag_text(setting, size, &data, tag.as_mut_slice()).map(|()| tag))
+    let text = fields.any_bit_string("bits", "data")?;
+    let tag = fields.room("room", usize::from(size))?;
+    Ok(setting.and_then(|setting| tag_text(setting, size, text, tag)))
 }
 
+/// Fills the buffer with the tag over a text.
 fn tag_text(
-    setting: Result<Setting, Refusal>,
+    mut setting: Setting,
     size: u8,
-    data: &BitField,
-    tag: &mut [u8],
-) -> Result<(), Refusal> {
-    let Setting {
-        sources,
-        parameters,
-        mut work,
-    } = setting?;
-    let mut generator = sources.generator();
+    text: BitField,
+    mut tag: Vec<u8>,
+) -> Result<Vec<u8>, Refusal> {
+    let mut generator = setting.sources.generator();
     cover::nia5(
         &mut generator,
-        work.as_mut_slice(),
-        &parameters,
+        setting.work.as_mut_slice(),
+        &setting.parameters,
         size,
-        data.as_bit_string(),
-        tag,
-    )
+        text.as_bit_string(),
+        tag.as_mut_slice(),
+    )?;
+    Ok(tag)
 }
 
 /// What a message with a tag is made of: the size of the tag, the AAD, and the message or the ciphertext.
@@ -106,6 +97,7 @@ struct Parts {
 }
 
 impl Parts {
+    /// Takes them from the fields.
     fn take<'a>(fields: &mut Fields<'a>) -> Result<Parts, Unreadable<'a>> {
         Ok(Parts {
             size: fields.byte("t")?,
@@ -119,34 +111,31 @@ impl Parts {
 pub fn nca5<'a>(fields: &mut Fields<'a>) -> Result<Result<Covered, Refusal>, Unreadable<'a>> {
     let setting = Setting::take(fields)?;
     let parts = Parts::take(fields)?;
-    let mut covered = Covered {
+    let covered = Covered {
         ciphertext: fields.room("room", parts.data.byte_length())?,
         tag: fields.room("tag_room", usize::from(parts.size))?,
     };
-    Ok(cover_parts(setting, &parts, &mut covered).map(|()| covered))
+    Ok(setting.and_then(|setting| cover_parts(setting, parts, covered)))
 }
 
+/// Fills the two buffers with a message covered and its tag.
 fn cover_parts(
-    setting: Result<Setting, Refusal>,
-    parts: &Parts,
-    covered: &mut Covered,
-) -> Result<(), Refusal> {
-    let Setting {
-        sources,
-        parameters,
-        mut work,
-    } = setting?;
-    let mut generator = sources.generator();
+    mut setting: Setting,
+    parts: Parts,
+    mut covered: Covered,
+) -> Result<Covered, Refusal> {
+    let mut generator = setting.sources.generator();
     cover::nca5_cover(
         &mut generator,
-        work.as_mut_slice(),
-        &parameters,
+        setting.work.as_mut_slice(),
+        &setting.parameters,
         parts.size,
         parts.aad.as_bit_string(),
         parts.data.as_bit_string(),
         covered.ciphertext.as_mut_slice(),
         covered.tag.as_mut_slice(),
-    )
+    )?;
+    Ok(covered)
 }
 
 /// The message of a ciphertext that NCA5 opens, if the tag is right.
@@ -154,30 +143,27 @@ pub fn nca5_open<'a>(fields: &mut Fields<'a>) -> Result<Result<Vec<u8>, Refusal>
     let setting = Setting::take(fields)?;
     let parts = Parts::take(fields)?;
     let tag = fields.bytes("tag")?;
-    let mut message = fields.room("room", parts.data.byte_length())?;
-    Ok(open_parts(setting, &parts, tag.as_slice(), message.as_mut_slice()).map(|()| message))
+    let message = fields.room("room", parts.data.byte_length())?;
+    Ok(setting.and_then(|setting| open_parts(setting, parts, tag, message)))
 }
 
+/// Fills the buffer with the message of a ciphertext, if the tag is right.
 fn open_parts(
-    setting: Result<Setting, Refusal>,
-    parts: &Parts,
-    tag: &[u8],
-    message: &mut [u8],
-) -> Result<(), Refusal> {
-    let Setting {
-        sources,
-        parameters,
-        mut work,
-    } = setting?;
-    let mut generator = sources.generator();
+    mut setting: Setting,
+    parts: Parts,
+    tag: Vec<u8>,
+    mut message: Vec<u8>,
+) -> Result<Vec<u8>, Refusal> {
+    let mut generator = setting.sources.generator();
     cover::nca5_open(
         &mut generator,
-        work.as_mut_slice(),
-        &parameters,
+        setting.work.as_mut_slice(),
+        &setting.parameters,
         parts.size,
         parts.aad.as_bit_string(),
         parts.data.as_bit_string(),
-        tag,
-        message,
-    )
+        tag.as_slice(),
+        message.as_mut_slice(),
+    )?;
+    Ok(message)
 }
