@@ -15,6 +15,7 @@ abbrev pub source_meaning : SourceGenerator → Meaning
 source_meaning (Aes g) = aes_meaning g.aes.key
 source_meaning (Playback g) = played g.bytes.now
 
+-- that meaning is sound: at most 2^32 blocks under a nonce, each of sixteen bytes
 pub source_sound : (g : SourceGenerator) → Sound (source_meaning g)
 source_sound (Aes g) = aes_sound g.aes
 source_sound (Playback g) = g.sound
@@ -24,6 +25,7 @@ abbrev pub line_meaning : LineGenerator → Meaning
 line_meaning (One g) = source_meaning g
 line_meaning (Two g) = both (source_meaning g.left) (source_meaning g.right)
 
+-- so is that of a line
 pub line_sound : (g : LineGenerator) → Sound (line_meaning g)
 line_sound (One g) = source_sound g
 line_sound (Two g) = both_sound (source_meaning g.left) (source_meaning g.right) (source_sound g.left) (source_sound g.right)
