@@ -121,5 +121,5 @@ error: line N: and why, and the run goes on. An account comes at the end.
   bytes that the bits do not fill; extra is six bytes or -. Three more fields
   may be given, each 0 to 65536: work=LENGTH of the work area, else 64;
   room=LENGTH of the buffer for the result, of nca5 for the ciphertext; and
-  tag_room=LENGTH of the buffer for the tag of nca5. Without them each buffer is
-  of the right size.";
+  tag_room=LENGTH of the buffer for the tag of nca5. Without them a buffer has
+  as many bytes as data, and that of a tag SIZE.";
