@@ -1,4 +1,4 @@
-//! What the calls of the cover test before they write anything. Each test is made in the order of the refusals' numbers.
+//! What the calls of the cover test before they write to an output, each test in the order of the refusals' numbers.
 ghost use Rattle.std.specs.Prelude.{◌≡◌, length};
 ghost use Rattle.units.specs.Lengths.{filled};
 ghost use Rattle.generator.specs.Generators.{Same};
