@@ -31,15 +31,14 @@ mod tests {
         }
     }
 
-    // The ciphertext and the tag of MESSAGE under KEY and the count 3.
-    fn covered() -> Result<([u8; 2], [u8; 4]), Refusal> {
+    // Covers MESSAGE under KEY and the count 3, and answers what its opening under a count does.
+    fn opening(count: u32, work: &mut [u8], message: &mut [u8]) -> Result<(), Refusal> {
         let mut generator = AesGenerator::new(&KEY);
-        let mut work = [0; WORK_AREA];
         let mut ciphertext = [0; 2];
         let mut tag = [0; 4];
         nca5_cover(
             &mut generator,
-            &mut work,
+            &mut [0; WORK_AREA],
             &parameters(3),
             4,
             AAD,
@@ -47,7 +46,20 @@ mod tests {
             &mut ciphertext,
             &mut tag,
         )?;
-        Ok((ciphertext, tag))
+        let covered = BitString {
+            bits: MESSAGE.bits,
+            bytes: &ciphertext,
+        };
+        nca5_open(
+            &mut generator,
+            work,
+            &parameters(count),
+            4,
+            AAD,
+            covered,
+            &tag,
+            message,
+        )
     }
 
     fn refused(reason: Reason) -> Result<(), Refusal> {
@@ -104,25 +116,11 @@ mod tests {
     // Under another count the tag is wrong. The place for the message stays as it was.
     #[test]
     fn wrong_count_refused(rt: HostRuntime) -> Result<(), Fail> {
-        let (ciphertext, tag) = covered()?;
-        let mut generator = AesGenerator::new(&KEY);
         let mut work = [1; WORK_AREA];
-        let message = &mut [9; 2];
-        let answer = nca5_open(
-            &mut generator,
-            &mut work,
-            &parameters(4),
-            4,
-            AAD,
-            BitString {
-                bits: MESSAGE.bits,
-                bytes: &ciphertext,
-            },
-            &tag,
-            message,
-        );
+        let mut message = [9; 2];
+        let answer = opening(4, &mut work, &mut message);
         assert_eq!(rt; answer, refused(Reason::WrongTag));
-        assert_eq!(rt; *message, [9; 2]);
+        assert_eq!(rt; message, [9; 2]);
         assert_eq!(rt; work, [0; WORK_AREA]);
         Ok(())
     }
@@ -130,26 +128,12 @@ mod tests {
     // A work area of a byte too many is refused, and all of it is zero then. The place for the message stays as it was.
     #[test]
     fn long_work_area_refused(rt: HostRuntime) -> Result<(), Fail> {
-        let (ciphertext, tag) = covered()?;
-        let mut generator = AesGenerator::new(&KEY);
-        let mut work = [1; 65];
-        let message = &mut [9; 2];
-        let answer = nca5_open(
-            &mut generator,
-            &mut work,
-            &parameters(3),
-            4,
-            AAD,
-            BitString {
-                bits: MESSAGE.bits,
-                bytes: &ciphertext,
-            },
-            &tag,
-            message,
-        );
+        let mut work = [1; WORK_AREA + 1];
+        let mut message = [9; 2];
+        let answer = opening(3, &mut work, &mut message);
         assert_eq!(rt; answer, refused(Reason::WorkArea));
-        assert_eq!(rt; *message, [9; 2]);
-        assert_eq!(rt; work, [0; 65]);
+        assert_eq!(rt; message, [9; 2]);
+        assert_eq!(rt; work, [0; WORK_AREA + 1]);
         Ok(())
     }
 }
