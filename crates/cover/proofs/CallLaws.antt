@@ -1,10 +1,11 @@
 -- What the two calls of NCA5 know once their tests are passed.
 use Rattle.std.proofs.Common.{◌≡◌, ℕ, ◌≤◌, List, Ok, arith}
 use Rattle.std.proofs.lemmas.Bool.Decides.{nat_tests}
+use Rattle.units.specs.Refusals.{told}
 use Rattle.units.specs.Lengths.{begun}
 use Rattle.generator.specs.Generators.{Meaning, Same}
 use Rattle.generator.proofs.KeystreamLaws.{Same-trans}
-use Rattle.cover.specs.Answers.{told, too_short}
+use Rattle.cover.specs.Answers.{too_short}
 
 -- the generator reaches far enough for H, Q and P and for so many bits of keystream, and means after the tests what it meant
 -- before

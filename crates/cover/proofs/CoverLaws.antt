@@ -1,12 +1,13 @@
 -- What holds of NEA5 and NCA5.
-use Rattle.std.proofs.Common.{◌≡◌, ℕ, min, ◌≤◌, true, List, length, take, None, Ok, refl, ap, ◌∙◌, arith, length-take}
+use Rattle.std.proofs.Common.{◌≡◌, ◌↔◌, ℕ, min, ◌≤◌, true, List, length, take, None, Ok, sym, refl, ap, ◌∙◌, arith, length-take}
 use Rattle.std.proofs.lemmas.Bool.Decides.{nat_tests}
 use Rattle.std.specs.Simd.Lanes.{digits_l}
 use Rattle.units.specs.Lengths.{begun, filled}
-use Rattle.units.specs.Strings.{same}
+use Rattle.units.specs.Strings.{Octets, same}
 use Rattle.units.proofs.StringLaws.{same_tells}
 use Rattle.units.specs.Spare.{cleared}
-use Rattle.units.specs.Sums.{◌⊕◌}
+use Rattle.units.specs.Sums.{◌⊕◌, sums}
+use Rattle.units.proofs.SumLaws.{sums_unlike}
 use Rattle.polynomials.specs.Field.{pdot}
 use Rattle.field.specs.Blocks.{block_bytes, blocks}
 use Rattle.field.specs.Folds.{fold, folded}
@@ -32,7 +33,7 @@ nea5_twice m work p bits input output sound accepted =
     rw (accepted, again) (ap (outcome (Ok tt)) (covered_twice m sound n bits input reaches long))
 
 -- a tag has the length that is asked for
-length_tag : (m : Meaning) (n : List ℕ) (t aad_bits : ℕ) (aad : List ℕ) (bits : ℕ) (ciphertext : List ℕ)
+pub length_tag : (m : Meaning) (n : List ℕ) (t aad_bits : ℕ) (aad : List ℕ) (bits : ℕ) (ciphertext : List ℕ)
     → t ≤ 16
     → length (tag_under m n t aad_bits aad bits ciphertext) ≡ t
 unfolding tag_under tag block_bytes
@@ -62,6 +63,29 @@ pub two_tags : TwoTags
 unfolding tag_under field_value
 two_tags m n t aad_bits aad aad' bits ciphertext ciphertext' =
     tag_stands (key_h m n) (key_q m n) (key_p m n) t aad_bits bits aad aad' ciphertext ciphertext'
+
+-- so of what is offered as the second tag: it is right exactly where its sum with the first is that field value
+pub sum_tells :
+    (m : Meaning) (n : List ℕ) (t aad_bits : ℕ) (aad aad' : List ℕ) (bits : ℕ) (ciphertext ciphertext' offered : List ℕ)
+    → t ≤ 16
+    → length offered ≡ t
+    → length aad ≡ length aad'
+    → length ciphertext ≡ length ciphertext'
+    → Octets aad
+    → Octets aad'
+    → Octets ciphertext
+    → Octets ciphertext'
+    → offered ≡ tag_under m n t aad_bits aad' bits ciphertext'
+    ↔ (sums (tag_under m n t aad_bits aad bits ciphertext) offered ≡ field_value m n t aad_bits (sums aad aad') bits (sums ciphertext ciphertext'))
+sum_tells m n t aad_bits aad aad' bits ciphertext ciphertext' offered small long a b o o' p p' =
+    let first = tag_under m n t aad_bits aad bits ciphertext in
+    let second = tag_under m n t aad_bits aad' bits ciphertext' in
+    let two = two_tags m n t aad_bits aad aad' bits ciphertext ciphertext' a b o o' p p' in
+    let l = length_tag m n t aad_bits aad bits ciphertext small in
+    let l' = length_tag m n t aad_bits aad' bits ciphertext' small in (
+      λ right. ap (sums first) right ∙ two,
+      λ sum. sums_unlike first offered second (long ∙ sym l) (l' ∙ sym l) (sum ∙ sym two),
+    )
 
 -- spare bits of what is folded make no difference
 fold-cleared : (h v n : ℕ) (xs : List ℕ) → fold h v n (cleared n xs) ≡ fold h v n xs

@@ -3,17 +3,18 @@ use Rattle.std.proofs.Common.{◌≡◌, ℕ, zero, suc, ◌*◌, ◌≤◌, ltb
 use Rattle.std.proofs.lemmas.Bool.{le-ltb, cond-false}
 use Rattle.units.specs.Lengths.{begun, filled}
 use Rattle.units.specs.Spare.{bit_at, clear, cleared}
+use Rattle.units.specs.Strings.{Octets}
 use Rattle.units.specs.Sums.{sums}
-use Rattle.units.proofs.SpareLaws.{clear_told, cleared_told, cleared-sums, length-cleared}
-use Rattle.units.proofs.StringLaws.{same_tells}
-use Rattle.units.proofs.SumLaws.{length-sums, terms}
+use Rattle.units.proofs.SpareLaws.{Octets-cleared, clear_told, cleared_told, cleared-sums, length-cleared}
+use Rattle.units.proofs.StringLaws.{Octets-append, same_tells}
+use Rattle.units.proofs.SumLaws.{Octets-sums, length-sums, sums_between, terms}
 use Rattle.generator.specs.Generators.{Meaning, Sound}
 use Rattle.cover.specs.Keystream.{covered, stream}
 
 -- ---- byte strings
 
 -- what is cleared is clear
-clear-cleared : (n : ℕ) (xs : List ℕ) → clear n (cleared n xs) ≡ true
+pub clear-cleared : (n : ℕ) (xs : List ℕ) → clear n (cleared n xs) ≡ true
 clear-cleared n xs =
     (clear_told n (cleared n xs) (clear n (cleared n xs)) refl).1
     (λ i h. cleared_told n xs (cleared n xs) refl i ∙ cond-false (ltb i n) (bit_at xs i) 0 (le-ltb i n h))
@@ -45,6 +46,11 @@ module _ (m : Meaning) (sound : Sound m) (n : List ℕ) where
       let last = sound.sixteen n k h in
       length-append (stream m n k) (m.block n k) ∙ omega arith
 
+  Octets-stream : (count : ℕ) → count ≤ m.reach n → Octets (stream m n count)
+  unfolding stream
+  Octets-stream zero h i = omega arith
+  Octets-stream (suc k) h i = Octets-append (stream m n k) (m.block n k) (Octets-stream k (omega arith)) (sound.octets n k h) i
+
   module _ (bits : ℕ) (text : List ℕ) (reaches : begun bits ≤ m.reach n) (long : length text ≡ filled bits) where
     -- the keystream goes as far as the text
     text_within : length text ≤ length (stream m n (begun bits))
@@ -67,6 +73,26 @@ module _ (m : Meaning) (sound : Sound m) (n : List ℕ) where
         ∙ ap (λ (l : List ℕ). sums l (cleared bits keys)) (cleared_again bits (sums text keys))
         ∙ sym (cleared-sums bits (sums text keys) keys)
         ∙ ap (cleared bits) (sums_again text keys text_within)
+
+    -- another ciphertext as long uncovers to the message plus the difference of the two
+    pub covered_other : (other : List ℕ) → length other ≡ filled bits → clear bits other ≡ true
+        → covered m n bits other ≡ sums (cleared bits text) (sums (covered m n bits text) other)
+    unfolding covered
+    covered_other other l c =
+        let keys = stream m n (begun bits) in
+        let front = length-cleared bits text in
+        let back = length-cleared bits keys in
+        cleared-sums bits other keys
+        ∙ ap (λ (xs : List ℕ). sums xs (cleared bits keys)) ((same_tells (cleared bits other) other).0 c)
+        ∙ sym (sums_between (cleared bits text) (cleared bits keys) other (omega arith) (omega (arith, text_within)))
+        ∙ ap (λ (xs : List ℕ). sums (cleared bits text) (sums xs other)) (sym (cleared-sums bits text keys))
+
+    -- a ciphertext is bytes
+    pub Octets-covered : Octets text → Octets (covered m n bits text)
+    unfolding covered
+    Octets-covered o =
+        let keys = stream m n (begun bits) in
+        Octets-cleared bits (sums text keys) (Octets-sums text keys o (Octets-stream (begun bits) reaches))
 
 -- what is covered has clear spare bits
 pub clear-covered : (m : Meaning) (n : List ℕ) (bits : ℕ) (text : List ℕ) → clear bits (covered m n bits text) ≡ true

@@ -1,6 +1,6 @@
 -- NCA5: a message covered, with a tag over AAD and ciphertext.
 use Rattle.std.specs.Prelude.{◌≡◌, ℕ, ◌||◌, false, true, not, List, length, Ok, Err, Result, Option, Some, None}
-use Rattle.units.specs.Lengths.{begun, filled}
+use Rattle.units.specs.Lengths.{begun, filled, unlike}
 use Rattle.units.specs.Refusals.{◌⊳◌}
 use Rattle.units.specs.Spare.{clear, cleared}
 use Rattle.units.specs.Strings.{same}
@@ -9,7 +9,7 @@ use Rattle.units.specs.declared.refusals.Refusal.{Refusal}
 use Rattle.generator.specs.Generators.{Meaning, Sound}
 use Rattle.nonces.specs.Nonces.{nonce, nonce_refusal}
 use Rattle.nonces.specs.declared.Parameters.{Parameters}
-use Rattle.cover.specs.Answers.{Written, refused_here, too_short, unlike, written}
+use Rattle.cover.specs.Answers.{Written, refused_here, too_short, written}
 use Rattle.cover.specs.Keystream.{covered}
 use Rattle.cover.specs.Tags.{TwoTags, tag_under}
 

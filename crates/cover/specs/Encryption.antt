@@ -1,6 +1,6 @@
 -- NEA5: a message plus the keystream.
 use Rattle.std.specs.Prelude.{◌≡◌, ℕ, false, List, length, Ok, Option, None, ◌==◌}
-use Rattle.units.specs.Lengths.{begun, filled}
+use Rattle.units.specs.Lengths.{begun, filled, unlike}
 use Rattle.units.specs.Refusals.{◌⊳◌}
 use Rattle.units.specs.Spare.{cleared}
 use Rattle.units.specs.declared.refusals.Reason.TheVariants.{WorkArea, BitLength, InputBytes, OutputBytes}
@@ -8,7 +8,7 @@ use Rattle.units.specs.declared.refusals.Refusal.{Refusal}
 use Rattle.generator.specs.Generators.{Meaning, Sound}
 use Rattle.nonces.specs.Nonces.{nonce, nonce_refusal}
 use Rattle.nonces.specs.declared.Parameters.{Parameters}
-use Rattle.cover.specs.Answers.{Written, refused_here, too_short, unlike, written}
+use Rattle.cover.specs.Answers.{Written, refused_here, too_short, written}
 use Rattle.cover.specs.Keystream.{covered}
 
 -- the tag size counts as 0

@@ -1,13 +1,13 @@
 -- NIA5: a tag over a text, which stands as AAD, with an empty message.
 use Rattle.std.specs.Prelude.{ℕ, false, true, List, [], length, Option, Some, ◌==◌}
-use Rattle.units.specs.Lengths.{filled}
+use Rattle.units.specs.Lengths.{filled, unlike}
 use Rattle.units.specs.Refusals.{◌⊳◌}
 use Rattle.units.specs.declared.refusals.Reason.TheVariants.{WorkArea, BitLength, InputBytes, OutputBytes}
 use Rattle.units.specs.declared.refusals.Refusal.{Refusal}
 use Rattle.generator.specs.Generators.{Meaning}
 use Rattle.nonces.specs.Nonces.{nonce, nonce_refusal}
 use Rattle.nonces.specs.declared.Parameters.{Parameters}
-use Rattle.cover.specs.Answers.{Written, refused_here, too_short, unlike, written}
+use Rattle.cover.specs.Answers.{Written, refused_here, too_short, written}
 use Rattle.cover.specs.Tags.{tag_under}
 
 -- with the instance bit, for H, Q and P

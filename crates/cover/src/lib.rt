@@ -15,4 +15,4 @@ mod work_area;
 pub use combined::{nca5_cover, nca5_open};
 pub use encryption::nea5;
 pub use integrity::nia5;
-pub use work_area::WORK_AREA;
+pub use work_area::{WORK_AREA, WorkArea};

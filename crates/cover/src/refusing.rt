@@ -1,8 +1,9 @@
 //! What the calls of the cover test before they write to an output, each test in the order of the refusals' numbers.
 ghost use Rattle.std.specs.Prelude.{◌≡◌, length};
-ghost use Rattle.units.specs.Lengths.{filled};
+ghost use Rattle.units.specs.Refusals.{told};
+ghost use Rattle.units.specs.Lengths.{filled, unlike};
 ghost use Rattle.generator.specs.Generators.{Same};
-ghost use Rattle.cover.specs.Answers.{refused_here, told, too_short, unlike};
+ghost use Rattle.cover.specs.Answers.{refused_here, too_short};
 
 use generator::generators::short;
 use generator::{Generator, Nonce};

@@ -26,8 +26,8 @@ pub(crate) const P: usize = 32;
 pub(crate) const CURRENT: usize = 48;
 
 /// A guard over the caller's bytes, of whatever length. All of them are zero once it is dropped, on whatever way.
-pub(crate) struct WorkArea<'a> {
-    bytes: &'a mut [u8],
+pub struct WorkArea<'a> {
+    pub bytes: &'a mut [u8],
 }
 
 impl Drop for WorkArea<'_> {
@@ -40,7 +40,7 @@ impl Drop for WorkArea<'_> {
 }
 
 impl<'a> WorkArea<'a> {
-    pub(crate) fn new(bytes: &'a mut [u8]) -> WorkArea<'a>
+    pub fn new(bytes: &'a mut [u8]) -> WorkArea<'a>
         ensures now { result.bytes.now ≡ bytes.entry.now }
         ensures name { result.bytes.ghost_name ≡ bytes.entry.ghost_name }
     {
@@ -49,7 +49,7 @@ impl<'a> WorkArea<'a> {
 }
 
 impl WorkArea<'_> {
-    pub(crate) fn len(&self) -> usize
+    pub fn len(&self) -> usize
         ensures { result ≡ length self.now.bytes.now }
     {
         self.bytes.len()

@@ -1,6 +1,6 @@
 -- The nonce of a message.
-use Rattle.std.specs.Prelude.{◌≡◌, ℕ, ◌+◌, ◌*◌, ◌^◌, ◌<◌, ◌≤◌, Bool, cond, ◌||◌, List, [], ◌∷◌, ◌++◌, Some, None, Ok, Err, Option, Result, nat_lt, unwrap_or}
-use Rattle.units.specs.Refusals.{◌⊳◌, refused}
+use Rattle.std.specs.Prelude.{◌≡◌, ℕ, ◌+◌, ◌*◌, ◌^◌, ◌<◌, ◌≤◌, Bool, cond, ◌||◌, List, [], ◌∷◌, ◌++◌, Some, None, Option, Result, nat_lt, unwrap_or}
+use Rattle.units.specs.Refusals.{◌⊳◌, refused, unless}
 use Rattle.units.specs.Strings.{four}
 use Rattle.units.specs.declared.refusals.Layer.TheVariants.{Cover}
 use Rattle.units.specs.declared.refusals.Reason.TheVariants.{BearerDirection, TagSize}
@@ -35,11 +35,6 @@ size_outside t = nat_lt t 4 || nat_lt 16 t
 abbrev pub nonce_refusal : Option ℕ → Parameters → Option Refusal
 nonce_refusal None p = refused (line_outside p) BearerDirection Cover 0
 nonce_refusal (Some t) p = refused (line_outside p) BearerDirection Cover 0 ⊳ refused (size_outside t) TagSize Cover 0
-
--- a value, unless there is a refusal
-abbrev pub unless : Option Refusal → Nonce → Result Nonce Refusal
-unless None n = Ok n
-unless (Some r) n = Err r
 
 -- the answer to one who asks for a nonce
 abbrev pub given : Option ℕ → Bool → Bool → Parameters → Result Nonce Refusal

@@ -14,16 +14,16 @@ use generator::Nonce;
 use units::{Layer, Reason, Refusal};
 
 /// The highest BEARER.
-const HIGHEST_BEARER: u8 = 31;
+pub const HIGHEST_BEARER: u8 = 31;
 
 /// The highest DIRECTION.
-const HIGHEST_DIRECTION: u8 = 1;
+pub const HIGHEST_DIRECTION: u8 = 1;
 
 /// The smallest tag, in bytes.
-const SMALLEST_TAG: u8 = 4;
+pub const SMALLEST_TAG: u8 = 4;
 
 /// The largest tag, in bytes.
-const LARGEST_TAG: u8 = 16;
+pub const LARGEST_TAG: u8 = 16;
 
 /// The six bytes of EXTRA_IV.
 #[derive(Clone, Copy, Debug, PartialEq, Eq)]

@@ -1,10 +1,10 @@
 -- Parts of byte strings, byte strings that are equal, and numbers in them.
-use Rattle.std.proofs.Common.{Decides, rules, ◌≡◌, ◌↔◌, ℕ, zero, suc, ◌+◌, ◌*◌, ◌/◌, ◌%◌, ◌<◌, ◌≤◌, List, [], ◌∷◌, ◌++◌, map, length, get_or, take, drop, sym, refl, ap, ◌∙◌, arith, lit<, get_or-drop, drop-cons, get_or-append-add}
+use Rattle.std.proofs.Common.{Decides, rules, ◌≡◌, ◌↔◌, ℕ, zero, suc, ◌+◌, ◌*◌, ◌/◌, ◌%◌, ◌<◌, ◌≤◌, List, [], ◌∷◌, ◌++◌, map, length, get_or, take, drop, sym, refl, ap, ◌∙◌, arith, lit<, ◌^◌, ap₂, get_or-drop, drop-cons, drop-drop, take-add, get_or-append-add}
 use Rattle.std.proofs.lemmas.Nat.{le_or_l, le_or_r}
 use Rattle.std.specs.Int.Bits.{bit_or}
 use Rattle.std.specs.List.{fold}
 use Rattle.std.proofs.lemmas.Slice.Eq.{compares_Decides}
-use Rattle.units.specs.Strings.{Octets, same, two, two_at, united}
+use Rattle.units.specs.Strings.{Octets, four, four_at, same, two, two_at, united}
 
 pub Octets-append_rest : (xs front rest : List ℕ) → Octets xs → xs ≡ front ++ rest → Octets rest
 Octets-append_rest xs front rest o e k =
@@ -66,6 +66,82 @@ two_read front back n h =
     in
     let low : get_or (front ++ (two n ++ back)) (length front + 1) 0 ≡ n % 256 = get_or-append-add front (two n ++ back) 1 0 in
     (λ j. high j * 256 + low j) ∙ omega arith
+
+pub Octets-two : (n : ℕ) → Octets (two n)
+unfolding two
+Octets-two n zero = omega arith
+Octets-two n (suc zero) = omega arith
+Octets-two n (suc (suc k)) = omega arith
+
+pub two_at_small : (xs : List ℕ) (i : ℕ) → Octets xs → two_at xs i < 2 ^ 16
+unfolding two_at
+two_at_small xs i o =
+    let a = o i in
+    let b = o (i + 1) in
+    omega arith
+
+pub length_four : (n : ℕ) → length (four n) ≡ 4
+unfolding four
+length_four n = refl
+
+pub Octets-four : (n : ℕ) → Octets (four n)
+unfolding four
+Octets-four n zero = omega arith
+Octets-four n (suc zero) = omega arith
+Octets-four n (suc (suc zero)) = omega arith
+Octets-four n (suc (suc (suc zero))) = omega arith
+Octets-four n (suc (suc (suc (suc k)))) = omega arith
+
+pub four_at_small : (xs : List ℕ) (i : ℕ) → Octets xs → four_at xs i < 2 ^ 32
+unfolding four_at
+four_at_small xs i o =
+    let a = o i in
+    let b = o (i + 1) in
+    let c = o (i + 2) in
+    let d = o (i + 3) in
+    omega arith
+
+-- four bytes of a number are the two of its upper half and the two of its lower half
+four_halves : (a b : ℕ) → a < 65536 → b < 65536 → four (a * 65536 + b) ≡ two a ++ two b
+unfolding four two
+four_halves a b h g =
+    let n = a * 65536 + b in
+    let b0 : n / 16777216 % 256 ≡ a / 256 % 256 = omega arith in
+    let b1 : n / 65536 % 256 ≡ a % 256 = omega arith in
+    let b2 : n / 256 % 256 ≡ b / 256 % 256 = omega arith in
+    let b3 : n % 256 ≡ b % 256 = omega arith in
+    λ i. b0 i ∷ b1 i ∷ b2 i ∷ b3 i ∷ []
+
+pub four_at_halves : (xs : List ℕ) (i : ℕ) → four_at xs i ≡ two_at xs i * 65536 + two_at xs (i + 2)
+unfolding four_at two_at
+four_at_halves xs i =
+    let next : i + 2 + 1 ≡ i + 3 = omega arith in
+    rw next (omega arith)
+
+-- the four bytes of a number, read and written again
+pub four_again : (xs : List ℕ) (i : ℕ) → Octets xs → i + 4 ≤ length xs → four (four_at xs i) ≡ take 4 (drop i xs)
+four_again xs i o h =
+    ap four (four_at_halves xs i)
+    ∙ four_halves (two_at xs i) (two_at xs (i + 2)) (two_at_small xs i o) (two_at_small xs (i + 2) o)
+    ∙ ap₂ (λ (front back : List ℕ). front ++ back) (two_again xs i o (omega arith)) (two_again xs (i + 2) o (omega arith))
+    ∙ ap (λ (back : List ℕ). take 2 (drop i xs) ++ take 2 back) (sym (drop-drop 2 i xs))
+    ∙ sym (take-add 2 2 (drop i xs))
+
+-- a number, written as four bytes and read again
+pub four_read : (front back : List ℕ) (n : ℕ) → n < 2 ^ 32 → four_at (front ++ (four n ++ back)) (length front) ≡ n
+unfolding four four_at
+four_read front back n h =
+    let zero : length front + 0 ≡ length front = omega arith in
+    let at : (k : ℕ) → get_or (front ++ (four n ++ back)) (length front + k) 0 ≡ get_or (four n ++ back) k 0 =
+    λ k. get_or-append-add front (four n ++ back) k 0
+    in
+    let b0 : get_or (front ++ (four n ++ back)) (length front) 0 ≡ n / 16777216 % 256 =
+    sym (ap (λ (k : ℕ). get_or (front ++ (four n ++ back)) k 0) zero) ∙ at 0
+    in
+    let b1 : get_or (front ++ (four n ++ back)) (length front + 1) 0 ≡ n / 65536 % 256 = at 1 in
+    let b2 : get_or (front ++ (four n ++ back)) (length front + 2) 0 ≡ n / 256 % 256 = at 2 in
+    let b3 : get_or (front ++ (four n ++ back)) (length front + 3) 0 ≡ n % 256 = at 3 in
+    (λ j. b0 j * 16777216 + b1 j * 65536 + b2 j * 256 + b3 j) ∙ omega arith
 
 -- a union is zero exactly where each byte is
 pub united_none : (xs : List ℕ) → united xs ≡ 0 ↔ ((k : ℕ) → get_or xs k 0 ≡ 0)

@@ -1,5 +1,5 @@
 -- Bitwise sums of numbers and of lists.
-use Rattle.std.proofs.Common.{◌≡◌, ℕ, zero, suc, ◌*◌, ◌%◌, ◌^◌, ◌≤◌, List, [], ◌∷◌, length, replicate, take, drop, sym, refl, ap, ◌∙◌, ap₂, le_of_suc-le-suc, not-suc-le-zero, add-zero, mod-lt, one-mul, zero-mul, arith, lit<, pow_pos, bit_xor}
+use Rattle.std.proofs.Common.{◌≡◌, ℕ, zero, suc, ◌*◌, ◌%◌, ◌^◌, ◌≤◌, List, [], ◌∷◌, length, get_or, replicate, take, drop, sym, refl, ap, ◌∙◌, ap₂, le_of_suc-le-suc, not-suc-le-zero, add-zero, mod-lt, one-mul, zero-mul, arith, lit<, pow_pos, bit_xor}
 use Rattle.std.specs.Int.Bits.{xor_assoc, xor_self, xor_zero_r}
 use Rattle.std.proofs.lemmas.Nat.{xor_block, xor_comm, xor_lt, xor_mod}
 use Rattle.units.specs.Strings.{Octets}
@@ -73,6 +73,27 @@ pub length-sums : (xs ys : List ℕ) → length xs ≤ length ys → length (sum
 length-sums [] ys h = refl
 length-sums (x ∷ xs) [] h = absurd (not-suc-le-zero h)
 length-sums (x ∷ xs) (y ∷ ys) h = ap suc (length-sums xs ys (le_of_suc-le-suc h))
+
+-- a sum with the same list tells the other
+pub sums_unlike : (xs ys zs : List ℕ) → length ys ≡ length xs → length zs ≡ length xs → sums xs ys ≡ sums xs zs → ys ≡ zs
+sums_unlike [] [] [] h g e = refl
+sums_unlike [] [] (z ∷ zs) h g e = absurd (omega arith)
+sums_unlike [] (y ∷ ys) zs h g e = absurd (omega arith)
+sums_unlike (x ∷ xs) [] zs h g e = absurd (omega arith)
+sums_unlike (x ∷ xs) (y ∷ ys) [] h g e = absurd (omega arith)
+sums_unlike (x ∷ xs) (y ∷ ys) (z ∷ zs) h g e =
+    ap₂ (λ (b : ℕ) (bs : List ℕ). b ∷ bs)
+    (xor_unlike x y z (ap (λ (l : List ℕ). get_or l 0 0) e))
+    (sums_unlike xs ys zs (omega arith) (omega arith) (ap (drop 1) e))
+
+-- what is added twice falls out
+pub sums_between : (xs ks ys : List ℕ) → length ys ≡ length xs → length xs ≤ length ks → sums xs (sums (sums xs ks) ys) ≡ sums ys ks
+sums_between [] ks [] h g = refl
+sums_between [] ks (y ∷ ys) h g = absurd (omega arith)
+sums_between (x ∷ xs) ks [] h g = absurd (omega arith)
+sums_between (x ∷ xs) [] (y ∷ ys) h g = absurd (omega arith)
+sums_between (x ∷ xs) (k ∷ ks) (y ∷ ys) h g =
+    ap₂ (λ (b : ℕ) (bs : List ℕ). b ∷ bs) (simp terms) (sums_between xs ks ys (omega arith) (omega arith))
 
 pub take-sums : (n : ℕ) (xs ys : List ℕ) → take n (sums xs ys) ≡ sums (take n xs) (take n ys)
 take-sums zero xs ys = refl

@@ -1,5 +1,5 @@
 -- Lengths in bits, and the bytes and blocks that bits fill.
-use Rattle.std.specs.Prelude.{ℕ, ◌+◌, ◌/◌, ◌%◌}
+use Rattle.std.specs.Prelude.{ℕ, ◌+◌, ◌/◌, ◌%◌, Bool, not, ◌==◌}
 
 -- the bytes that n bits fill
 unfoldable pub filled : ℕ → ℕ
@@ -16,3 +16,7 @@ split n = record { whole = n / 128; left = n % 128 }
 -- the blocks that n bits begin
 unfoldable pub begun : ℕ → ℕ
 begun n = (n + 127) / 128
+
+-- whether two lengths differ
+abbrev pub unlike : ℕ → ℕ → Bool
+unlike a b = not (a == b)

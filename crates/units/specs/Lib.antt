@@ -3,3 +3,4 @@ pub mod Sums
 pub mod Strings
 pub mod Refusals
 pub mod Spare
+pub mod Different

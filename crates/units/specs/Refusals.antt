@@ -1,5 +1,5 @@
 -- Why a call says no: the reasons, their numbers, and how a refusal is written.
-use Rattle.std.specs.Prelude.{ℕ, Bool, cond, List, ◌++◌, Some, None, Option, codes, decimal}
+use Rattle.std.specs.Prelude.{ℕ, Bool, cond, List, ◌++◌, Some, None, Option, Ok, Err, Result, codes, decimal}
 use Rattle.units.specs.declared.refusals.Layer.{Layer}
 use Rattle.units.specs.declared.refusals.Layer.TheVariants.{Cover, Link, Generator, Recording, KeyText}
 use Rattle.units.specs.declared.refusals.Reason.{Reason}
@@ -38,6 +38,16 @@ infixr 40 ◌⊳◌
 abbrev pub ◌⊳◌ : Option Refusal → Option Refusal → Option Refusal
 (Some r) ⊳ b = Some r
 None ⊳ b = b
+
+-- an answer, unless there is a refusal
+abbrev pub unless : {A : Type 0} → Option Refusal → A → Result A Refusal
+unless None a = Ok a
+unless (Some r) a = Err r
+
+-- the answer of a test: nothing, or its refusal
+abbrev pub told : Option Refusal → Result (Unit {0}) Refusal
+told None = Ok tt
+told (Some r) = Err r
 
 -- a layer as one word
 abbrev pub word : Layer → List ℕ

@@ -28,3 +28,8 @@ four n = n / 16777216 % 256 ∷ n / 65536 % 256 ∷ n / 256 % 256 ∷ n % 256 �
 -- the number in the two bytes from the place i on
 unfoldable pub two_at : List ℕ → ℕ → ℕ
 two_at xs i = slice_index xs i * 256 + slice_index xs (i + 1)
+
+-- the number in the four bytes from the place i on
+unfoldable pub four_at : List ℕ → ℕ → ℕ
+four_at xs i =
+    slice_index xs i * 16777216 + slice_index xs (i + 1) * 65536 + slice_index xs (i + 2) * 256 + slice_index xs (i + 3)
