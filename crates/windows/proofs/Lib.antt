@@ -1,0 +1,2 @@
+pub mod BitLaws
+pub mod WindowLaws
