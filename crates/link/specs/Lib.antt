@@ -1,0 +1,5 @@
+pub mod Answers
+pub mod Settings
+pub mod Seals
+pub mod Opens
+pub mod Keystream

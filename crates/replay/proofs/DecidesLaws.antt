@@ -1,0 +1,240 @@
+-- What decides an open whose frame is well formed: whether its count is still open, and its tag.
+use Rattle.std.proofs.Common.{◌≡◌, ◌↔◌, ℕ, ◌≤◌, true, List, [], ◌∷◌, ◌++◌, length, take, drop, Ok, None, Option, sym, ap, ◌∙◌, subst, arith}
+use Rattle.std.proofs.lemmas.Bool.Decides.{nat_tests}
+use Rattle.units.specs.Lengths.{begun, filled}
+use Rattle.units.specs.Refusals.{unless}
+use Rattle.units.specs.Spare.{clear, cleared}
+use Rattle.units.specs.Strings.{Octets, same}
+use Rattle.units.specs.Sums.{sums}
+use Rattle.units.proofs.SpareLaws.{Octets-cleared, length-cleared}
+use Rattle.units.proofs.StringLaws.{Octets-drop, Octets-take, same_tells}
+use Rattle.units.specs.declared.lengths.Bytes.{Bytes}
+use Rattle.units.specs.declared.refusals.Refusal.{Refusal}
+use Rattle.generator.specs.Generators.{Meaning, Sound}
+use Rattle.nonces.specs.declared.Parameters.{Parameters}
+use Rattle.cover.specs.Combined.{ciphertext_of, instance_nonce, stream_nonce, tag_of}
+use Rattle.cover.proofs.CoverLaws.{nca5_stands, sum_tells}
+use Rattle.cover.proofs.KeystreamLaws.{Octets-covered, covered_other, length-covered}
+use Rattle.windows.specs.Windows.{StillOpen, count_refusal, marked, new_window}
+use Rattle.windows.proofs.WindowLaws.{window_tells}
+use Rattle.windows.specs.declared.Window.{Window}
+use Rattle.frames.specs.Frames.{Fits, Parts, layout_refusal, parts}
+use Rattle.frames.proofs.FrameLaws.{frames_stand}
+use Rattle.link.specs.Answers.{over}
+use Rattle.link.specs.Opens.{OpenCall, WellFormed, open_by, open_refusal, opened_as, opened_message}
+use Rattle.link.specs.Seals.{SealCall, sealed_parts}
+use Rattle.link.specs.Settings.{Lawful, parameters}
+use Rattle.link.specs.declared.settings.Terms.{Terms}
+use Rattle.replay.specs.Runs.{Event, OpenEvent, SealEvent, opening, sealing}
+use Rattle.replay.specs.Laws.{Accepted, Alike, Decided, Offers, TagsAgree, counts_opened}
+use Rattle.replay.proofs.Follows.{AllAsked, Follows}
+use Rattle.replay.proofs.JournalLaws.{OpenedAfter, asked_in, opened_in, sealed_in}
+use Rattle.replay.proofs.OnceLaws.{admitted}
+use Rattle.replay.proofs.SealedLaws.{Made, SealPassed, made, made_parts, seal_passed, take-over}
+
+-- ---- a well-formed frame
+
+pub record Formed (s : Terms) (p : Parts) : Type 0 where
+  pub fits : Fits p
+  pub size : p.size ≡ s.tag_size
+  pub clear : clear p.bits p.ciphertext ≡ true
+
+pub formed : (s : Terms) (f : List ℕ) → Octets f → WellFormed s f → Formed s (parts f)
+formed s f o e =
+    let whole : layout_refusal f ≡ None = grind (arith, nat_tests, e) in
+    record {
+      fits = (frames_stand.own f (parts f) o (ap (λ (r : Option Refusal). unless r (parts f)) whole)).1;
+      size = grind (arith, nat_tests, e);
+      clear = grind (arith, nat_tests, e);
+    }
+
+Octets-aad : (f : List ℕ) → Octets f → Octets (parts f).aad
+unfolding parts
+Octets-aad f o = Octets-take (drop 12 f) (filled (parts f).aad_bits) (Octets-drop f 12 o)
+
+Octets-ciphertext : (f : List ℕ) → Octets f → Octets (parts f).ciphertext
+unfolding parts
+Octets-ciphertext f o =
+    let a = filled (parts f).aad_bits in
+    Octets-take (drop a (drop 12 f)) (filled (parts f).bits) (Octets-drop (drop 12 f) a (Octets-drop f 12 o))
+
+-- ---- an open
+
+-- the keystream reaches for a message of so many bits
+pub record Reached (m : Meaning) (s : Terms) (count bits : ℕ) : Type 0 where
+  pub keys : 3 ≤ m.reach (instance_nonce s.tag_size (parameters s count))
+  pub stream : begun bits ≤ m.reach (stream_nonce s.tag_size (parameters s count))
+
+-- the tag of what a frame carries
+abbrev pub right_tag : Meaning → Terms → Parts → List ℕ
+right_tag m s p = tag_of m (parameters s p.count) s.tag_size p.aad_bits p.aad p.bits p.ciphertext
+
+-- the count and the tag are tested last
+tests_pass : (m : Meaning) (s : Terms) (w : Window) (c : OpenCall)
+    → Offers s c
+    → Reached m s (parts c.frame).count (parts c.frame).bits
+    → (count_refusal w (parts c.frame).count ≡ None) × ((parts c.frame).tag ≡ right_tag m s (parts c.frame))
+    → open_refusal m s w c ≡ None
+tests_pass m s w c offers reached right =
+    let p = parts c.frame in
+    let test : same p.tag (right_tag m s p) ≡ true = (same_tells p.tag (right_tag m s p)).1 right.1 in
+    grind (arith, nat_tests, offers.work, offers.room, offers.formed, reached.keys, reached.stream, right.0, test)
+
+tests_passed : (m : Meaning) (s : Terms) (w : Window) (c : OpenCall)
+    → open_refusal m s w c ≡ None
+    → (count_refusal w (parts c.frame).count ≡ None) × ((parts c.frame).tag ≡ right_tag m s (parts c.frame))
+tests_passed m s w c accepted =
+    let p = parts c.frame in
+    let test : same p.tag (right_tag m s p) ≡ true = grind (arith, nat_tests, accepted) in
+    (grind (arith, nat_tests, accepted), (same_tells p.tag (right_tag m s p)).0 test)
+
+module _ (m : Meaning) (s : Terms) (first : ℕ) (done : List ℕ) (o : OpenEvent) (is : OpenedAfter m s first done o) where
+  abbrev b : Parts
+  b = parts o.asked.frame
+
+  abbrev window : Window
+  window = marked (new_window first) done
+
+  passed_all : Accepted o → open_refusal m s window o.asked ≡ None
+  passed_all a = (admitted m s window o a.0 is a.1).accepted
+
+  accepted_all : open_refusal m s window o.asked ≡ None → Accepted o
+  accepted_all e =
+      (opened_as b, ap (λ (x : OpenEvent). x.answer) is ∙ ap (λ (r : Option Refusal). (open_by r m s window o.asked).answer) e)
+
+  -- where the keystream reaches, it is accepted exactly where its count is open and its tag is right
+  pub accepted_right : Offers s o.asked → Reached m s b.count b.bits
+      → Accepted o ↔ (StillOpen first done b.count × (b.tag ≡ right_tag m s b))
+  accepted_right offers reached =
+      let judged = window_tells.judged first done b.count in
+      let still = window_tells.still first done b.count in (
+        λ a.
+            let p = tests_passed m s window o.asked (passed_all a) in
+            (still.0 (sym judged ∙ p.0), p.1),
+        λ h. accepted_all (tests_pass m s window o.asked offers reached (judged ∙ still.1 h.0, h.1)),
+      )
+
+  -- what then lies at the start of its buffer
+  pub message_told : Sound m → Reached m s b.count b.bits → Fits b → Accepted o → take (filled b.bits) o.buffer ≡ opened_message m s b
+  message_told sound reached fits a =
+      let message = opened_message m s b in
+      let long : length message ≡ filled b.bits =
+      length-covered m sound (stream_nonce s.tag_size (parameters s b.count)) b.bits b.ciphertext reached.stream fits.ciphertext in
+      ap (λ (x : OpenEvent). take (filled b.bits) x.buffer) is
+      ∙ ap (λ (r : Option Refusal). take (filled b.bits) (open_by r m s window o.asked).buffer) (passed_all a)
+      ∙ ap (λ (n : ℕ). take n (over message o.asked.buffer)) (sym long)
+      ∙ take-over message o.asked.buffer
+
+-- ---- a sealed frame, and one that is offered
+
+module _ (m : Meaning) (sound : Sound m) (s : Terms) (count : ℕ) (c : SealCall) (passed : SealPassed m s count c)
+    (b : Parts) (well : Formed s b) (alike : Alike (sealed_parts m s count c) b) where
+  same_count : count ≡ b.count
+  unfolding sealed_parts
+  same_count = alike.count
+
+  same_aad_bits : c.aad_bits ≡ b.aad_bits
+  unfolding sealed_parts
+  same_aad_bits = alike.aad_bits
+
+  same_bits : c.bits ≡ b.bits
+  unfolding sealed_parts
+  same_bits = alike.bits
+
+  abbrev p : Parameters
+  p = parameters s count
+
+  abbrev t : ℕ
+  t = s.tag_size
+
+  abbrev ciphertext : List ℕ
+  ciphertext = ciphertext_of m p t c.bits c.message
+
+  long_aads : length (cleared c.aad_bits c.aad) ≡ length b.aad
+  long_aads = length-cleared c.aad_bits c.aad ∙ passed.aad ∙ ap filled same_aad_bits ∙ sym well.fits.aad
+
+  long_other : length b.ciphertext ≡ filled c.bits
+  long_other = well.fits.ciphertext ∙ ap filled (sym same_bits)
+
+  long_ciphertext : length ciphertext ≡ filled c.bits
+  long_ciphertext = length-covered m sound (stream_nonce t p) c.bits c.message passed.stream passed.message
+
+  pub reached : Reached m s b.count b.bits
+  reached =
+      subst (λ (x : ℕ). Reached m s x b.bits) same_count
+      (subst (λ (x : ℕ). Reached m s count x) same_bits (record { keys = passed.keys; stream = passed.stream }))
+
+  right_is : right_tag m s b ≡ tag_of m p t c.aad_bits b.aad c.bits b.ciphertext
+  right_is = λ i. tag_of m (parameters s (sym same_count i)) t (sym same_aad_bits i) b.aad (sym same_bits i) b.ciphertext
+
+  -- the tag of the one is right exactly where the sum of the two tags agrees
+  pub right_agrees : t ≤ 16 → Octets c.aad → Octets c.message → Octets b.aad → Octets b.ciphertext
+      → b.tag ≡ right_tag m s b ↔ TagsAgree m s (sealed_parts m s count c) b
+  unfolding sealed_parts
+  right_agrees small aad message aad' ciphertext' =
+      let tells =
+      sum_tells m (instance_nonce t p) t c.aad_bits (cleared c.aad_bits c.aad) b.aad c.bits ciphertext b.ciphertext b.tag small
+      (well.fits.tag ∙ well.size)
+      long_aads
+      (long_ciphertext ∙ sym long_other)
+      (Octets-cleared c.aad_bits c.aad aad)
+      aad'
+      (Octets-covered m sound (stream_nonce t p) c.bits c.message passed.stream passed.message message)
+      ciphertext' in
+      let spare = ap (λ (xs : List ℕ). sums xs b.tag) (nca5_stands.spare.aad m p t c.aad_bits c.aad c.bits ciphertext) in
+      (λ right. sym spare ∙ tells.0 (right ∙ right_is), λ agree. tells.1 (spare ∙ agree) ∙ sym right_is)
+
+  -- and its message is that of the other plus the difference
+  pub message_differs : opened_message m s b ≡ sums (cleared c.bits c.message) (sums ciphertext b.ciphertext)
+  message_differs =
+      (λ i. ciphertext_of m (parameters s (sym same_count i)) t (sym same_bits i) b.ciphertext)
+      ∙ covered_other m sound (stream_nonce t p) c.bits c.message passed.stream passed.message b.ciphertext long_other
+      (ap (λ (n : ℕ). clear n b.ciphertext) same_bits ∙ well.clear)
+
+-- the sum of two tags decides
+module _ (m : Meaning) (sound : Sound m) (s : Terms) (lawful : Lawful s) (first : ℕ) where
+  decided_parts :
+      (count : ℕ) (c : SealCall) → SealPassed m s count c → Octets c.aad → Octets c.message
+      → (done : List ℕ) (o : OpenEvent) → OpenedAfter m s first done o → Offers s o.asked → Octets o.asked.frame
+      → Alike (sealed_parts m s count c) (parts o.asked.frame)
+      → Decided m s first done (sealed_parts m s count c) c.message (parts o.asked.frame) o
+  unfolding sealed_parts
+  decided_parts count c passed aad message done o is offers frame alike =
+      let f = o.asked.frame in
+      let b = parts f in
+      let well = formed s f frame offers.formed in
+      let near = reached m sound s count c passed b well alike in
+      let right = accepted_right m s first done o is offers near in
+      let agrees = right_agrees m sound s count c passed b well alike lawful.largest aad message (Octets-aad f frame) (Octets-ciphertext f frame) in
+      record {
+        accepted = (λ a. ((right.0 a).0, agrees.0 (right.0 a).1), λ h. right.1 (h.0, agrees.1 h.1));
+        opens_to = λ a. message_told m s first done o is sound near well.fits a ∙ message_differs m sound s count c passed b well alike;
+      }
+
+  pub decided :
+      (count : ℕ) (e : SealEvent) (n : Bytes) → Made m s count e n → Octets e.asked.aad → Octets e.asked.message
+      → (done : List ℕ) (o : OpenEvent) → OpenedAfter m s first done o → Offers s o.asked → Octets o.asked.frame
+      → Alike (parts (take n.0 e.buffer)) (parts o.asked.frame)
+      → Decided m s first done (parts (take n.0 e.buffer)) e.asked.message (parts o.asked.frame) o
+  decided count e n made aad message done o is offers frame alike =
+      let b = parts o.asked.frame in
+      let again = made_parts frames_stand m s count e n sound lawful made in
+      subst (λ (q : Parts). Decided m s first done q e.asked.message b o) (sym again)
+      (decided_parts count e.asked (seal_passed m s count e.asked made.accepted) aad message done o is offers frame
+      (subst (λ (q : Parts). Alike q b) again alike))
+
+  -- so it is with every seal and every open of a journal
+  pub sum_decides :
+      (next : ℕ) (journal : List Event) → Follows m s first next [] journal → AllAsked journal
+      → (before after : List Event) (o : OpenEvent) → journal ≡ before ++ (opening o ∷ after) → Offers s o.asked
+      → (early late : List Event) (e : SealEvent) (n : Bytes) → journal ≡ early ++ (sealing e ∷ late) → e.answer ≡ Ok n
+      → Alike (parts (take n.0 e.buffer)) (parts o.asked.frame)
+      → Decided m s first (counts_opened before) (parts (take n.0 e.buffer)) e.asked.message (parts o.asked.frame) o
+  sum_decides next journal follows asked before after o at offers early late e n place ok alike =
+      let from = sealed_in m s first next [] early late e (subst (Follows m s first next []) place follows) in
+      let given = asked_in early late (sealing e) (subst AllAsked place asked) in
+      decided from.count e n (made m s from.count e n from.is ok) given.0 given.1 (counts_opened before) o
+      (opened_in m s first next [] before after o (subst (Follows m s first next []) at follows))
+      offers
+      (asked_in before after (opening o) (subst AllAsked at asked))
+      alike

@@ -1,0 +1,11 @@
+pub mod Follows
+pub mod SameMeaning
+pub mod JournalLaws
+pub mod SealedLaws
+pub mod DecidesLaws
+pub mod ReturnLaws
+pub mod PlaceLaws
+pub mod OnceLaws
+pub mod AllLaws
+pub mod OfferedLaws
+pub mod RunLaws

@@ -1,0 +1,5 @@
+pub mod Runs
+pub mod Asked
+pub mod Laws
+pub mod RoundTrip
+pub mod Journals
