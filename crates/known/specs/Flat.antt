@@ -29,7 +29,7 @@ abbrev pub parameters : ℕ → ℕ → ℕ → Parameters
 parameters bearer direction count = record { bearer = bearer; direction = direction; extra_iv = None; count = count }
 
 -- the number of the refusal, or 0
-abbrev pub number_of : Result (Unit {0}) Refusal → ℕ
+abbrev pub number_of : {A : Type 0} → Result A Refusal → ℕ
 number_of (Ok v) = 0
 number_of (Err r) = number r.reason
 

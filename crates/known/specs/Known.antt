@@ -9,6 +9,7 @@ use Rattle.cover.specs.Combined.{instance_nonce, stream_nonce}
 use Rattle.cover.specs.Encryption.{nea5_nonce}
 use Rattle.cover.specs.Integrity.{nia5_nonce}
 use Rattle.known.specs.Flat.{e_bytes, flat_cover, flat_nia5, flat_open, parameters}
+use Rattle.known.specs.FlatLink.{eight_lost, flat_run, frame_of_13_bits, judged, run_shown}
 
 -- a value as a definition gives it, beside the value that is known
 pub record Row : Type 0 where
@@ -36,7 +37,7 @@ dotted a b = block_bytes (pdot (polynomial a) (polynomial b))
 abbrev pub counted : ℕ → ℕ → List ℕ
 counted a b = a ∷ b ∷ (replicate 6 0 ++ (0x01 ∷ 0x02 ∷ 0x03 ∷ 0x04 ∷ []))
 
--- what is known of the field, of spare bits, of nonces and, under the flat keystream, of NIA5 and NCA5
+-- what is known of the field, of spare bits, of nonces, of windows and, under the flat keystream, of NIA5, NCA5 and a link
 unfoldable pub table : List Row
 table =
     row (block_bytes one) e_bytes
@@ -55,6 +56,10 @@ table =
     ∷ row (flat_open (0x54 ∷ 0x30 ∷ []) (0x59 ∷ 0x30 ∷ 0x00 ∷ 0x01 ∷ [])) (14 ∷ 0x00 ∷ 0x00 ∷ [])
     ∷ row (flat_open (0x55 ∷ 0x30 ∷ []) (0x58 ∷ 0x30 ∷ 0x00 ∷ 0x00 ∷ [])) (0 ∷ 0xAA ∷ 0xC8 ∷ [])
     ∷ row (flat_cover 0 [] [] (replicate 4 0xFF)) (0 ∷ 0x00 ∷ 0x00 ∷ 0x00 ∷ 0x00 ∷ [])
+    ∷ row (judged 37 ∷ []) (0 ∷ [])
+    ∷ row (judged 36 ∷ []) (11 ∷ [])
+    ∷ row (eight_lost ∷ []) (13 ∷ [])
+    ∷ row (run_shown flat_run) (0 ∷ (frame_of_13_bits ++ (14 ∷ 0 ∷ 0 ∷ 0 ∷ 0xAB ∷ 0xC8 ∷ 12 ∷ 0 ∷ 0 ∷ 0 ∷ [])))
     ∷ []
 
 -- the table holds

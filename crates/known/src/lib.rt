@@ -11,5 +11,5 @@ pub fn known_values() -> usize
     ensures agree { ValuesKnown }
     ensures flat { FlatSound }
 {
-    16
+    20
 }

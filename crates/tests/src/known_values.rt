@@ -5,8 +5,8 @@ mod tests {
     use std::test::Fail;
 
     #[test]
-    fn sixteen(rt: HostRuntime) -> Result<(), Fail> {
-        assert_eq!(rt; known_values(), 16);
+    fn twenty(rt: HostRuntime) -> Result<(), Fail> {
+        assert_eq!(rt; known_values(), 20);
         Ok(())
     }
 }
