@@ -1,4 +1,5 @@
 -- What the generators of the commands mean.
+use Rattle.std.specs.Vec.{vec_items}
 use Rattle.generator.specs.Generators.{Meaning, Sound}
 use Rattle.generator.specs.Pairs.{both}
 use Rattle.generator.specs.Soundness.{both_sound}
@@ -13,7 +14,7 @@ use Rattle.catsvomi.specs.declared.sources.LineGenerator.TheVariants.{One, Two}
 -- the meaning of the one that it is
 abbrev pub source_meaning : SourceGenerator → Meaning
 source_meaning (Aes g) = aes_meaning g.aes.key
-source_meaning (Playback g) = played g.bytes.now
+source_meaning (Playback g) = played (vec_items g.bytes)
 
 -- that meaning is sound: at most 2^32 blocks under a nonce, each of sixteen bytes
 pub source_sound : (g : SourceGenerator) → Sound (source_meaning g)

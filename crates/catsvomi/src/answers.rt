@@ -1,7 +1,8 @@
 //! What a command answers, and how that is written.
-use super::listings::Listing;
+use super::listings::{FrameListing, Listing};
 use field::Block;
 use hexadecimal::Hex;
+use link::Opened;
 use std::fmt;
 use units::Refusal;
 
@@ -13,6 +14,9 @@ pub enum Answer {
     Bytes(Vec<u8>),
     Blocks(Vec<Block>),
     Covered(Covered),
+    Parts(FrameListing),
+    Received(Received),
+    Figure(u8),
     Ok,
     Refused(Refusal),
 }
@@ -22,6 +26,13 @@ pub enum Answer {
 pub struct Covered {
     pub ciphertext: Vec<u8>,
     pub tag: Vec<u8>,
+}
+
+/// A message that an end opened, and what the end says of it.
+#[derive(Drop)]
+pub struct Received {
+    pub opened: Opened,
+    pub message: Vec<u8>,
 }
 
 impl Answer {
@@ -34,6 +45,7 @@ impl Answer {
     pub fn refusal(&self) -> Option<Refusal> {
         match self {
             Answer::Recording(listing) => listing.verdict.err(),
+            Answer::Parts(listing) => listing.refusal(),
             Answer::Refused(refusal) => Some(*refusal),
             _ => None,
         }
@@ -49,6 +61,9 @@ impl fmt::Display for Answer {
             Answer::Bytes(bytes) => write_bytes(f, bytes.as_slice()),
             Answer::Blocks(blocks) => write_blocks(f, blocks.as_slice()),
             Answer::Covered(covered) => write_covered(f, covered),
+            Answer::Parts(listing) => write!(f, "{listing}"),
+            Answer::Received(received) => write_received(f, received),
+            Answer::Figure(figure) => write!(f, "{figure}"),
             Answer::Ok => f.write_str("ok"),
             Answer::Refused(refusal) => write!(f, "{refusal}"),
         }
@@ -76,6 +91,24 @@ fn write_covered<W: fmt::Write>(f: &mut fmt::Formatter<W>, covered: &Covered) ->
     write_bytes(f, covered.ciphertext.as_slice())?;
     f.write_str(" ")?;
     write_bytes(f, covered.tag.as_slice())
+}
+
+/// What the end says, and the message.
+fn write_received<W: fmt::Write>(f: &mut fmt::Formatter<W>, received: &Received) -> fmt::Result {
+    let Opened {
+        count,
+        bits,
+        aad_place,
+        aad_bits,
+    } = received.opened;
+    let bits = bits.0;
+    let aad_at = aad_place.0;
+    let aad_bits = aad_bits.0;
+    let message = Hex(received.message.as_slice());
+    write!(
+        f,
+        "count={count} bits={bits} aad_at={aad_at} aad_bits={aad_bits} message={message}"
+    )
 }
 
 const HELP: &str = "catsvomi reads commands, one a line: a word, and then fields as key=value.
@@ -114,7 +147,10 @@ error: line N: and why, and the run goes on. An account comes at the end.
       the AAD and the ciphertext.
   nca5-open FROM t=SIZE aad_bits=BITS aad=HEX bits=BITS data=HEX tag=HEX
       The message of a ciphertext, data, whose tag is right.
-  In the last four FROM stands for
+  frame FROM t=SIZE aad_bits=BITS aad=HEX bits=BITS data=HEX
+      The frame of a message, data, as the link seals it with COUNT. The AAD has
+      at most 512 bits, the message 11200.
+  In the last five FROM stands for
       key=TEXT count=COUNT bearer=BEARER direction=DIRECTION extra=HEX
   with key= replaced or paired as for blocks. COUNT is 0 to 4294967295; BEARER,
   DIRECTION and SIZE are 0 to 255, and what is out of range is refused, as are
@@ -122,4 +158,23 @@ error: line N: and why, and the run goes on. An account comes at the end.
   may be given, each 0 to 65536: work=LENGTH of the work area, else 64;
   room=LENGTH of the buffer for the result, of nca5 for the ciphertext; and
   tag_room=LENGTH of the buffer for the tag of nca5. Without them a buffer has
-  as many bytes as data, and that of a tag SIZE.";
+  as many bytes as data, that of a tag SIZE, and that of a frame 1492.
+  parts frame=HEX
+      The parts of a frame, each as a field.
+  sender key=TEXT bearer=BEARER direction=DIRECTION t=SIZE extra=HEX first=COUNT
+      Makes the sending end of a link, which uses the counts from COUNT on, and
+      gives up the one before. key= is replaced or paired as for blocks.
+  receiver, with the fields of sender
+      Makes the receiving end, which opens no count below COUNT, and gives up
+      the one before.
+  seal aad_bits=BITS aad=HEX bits=BITS data=HEX
+      The frame of a message, data, that the sending end seals with its next
+      count.
+  open frame=HEX
+      What a frame holds that the receiving end opens: the count, the bits of
+      the message, where the AAD begins in the frame, its bits, and the message.
+  loss
+      How many in a hundred of the last counts up to the highest opened, at most
+      64 of them, the receiving end has not opened.
+  seal and open take work= and room= as well. Without room= the buffer for a
+  frame has 1492 bytes, and that for a message 1400.";

@@ -2,8 +2,9 @@
 use super::answers::Answer;
 use super::errors::Unreadable;
 use super::fields::Fields;
-use super::listings::Listing;
-use super::{cover_commands, field_commands, generator_commands};
+use super::link_commands::Ends;
+use super::listings::{FrameListing, Listing};
+use super::{cover_commands, field_commands, generator_commands, link_commands};
 use std::alloc::Global;
 use std::fmt;
 
@@ -21,6 +22,13 @@ pub enum Command {
     Nia5,
     Nca5,
     Nca5Open,
+    Frame,
+    Parts,
+    Sender,
+    Receiver,
+    Seal,
+    Open,
+    Loss,
 }
 
 impl<'a> TryFrom<&'a str> for Command {
@@ -40,6 +48,13 @@ impl<'a> TryFrom<&'a str> for Command {
             "nia5" => Ok(Command::Nia5),
             "nca5" => Ok(Command::Nca5),
             "nca5-open" => Ok(Command::Nca5Open),
+            "frame" => Ok(Command::Frame),
+            "parts" => Ok(Command::Parts),
+            "sender" => Ok(Command::Sender),
+            "receiver" => Ok(Command::Receiver),
+            "seal" => Ok(Command::Seal),
+            "open" => Ok(Command::Open),
+            "loss" => Ok(Command::Loss),
             _ => Err(Unreadable::UnknownCommand(word)),
         }
     }
@@ -61,26 +76,42 @@ impl fmt::Display for Command {
             Command::Nia5 => "nia5",
             Command::Nca5 => "nca5",
             Command::Nca5Open => "nca5-open",
+            Command::Frame => "frame",
+            Command::Parts => "parts",
+            Command::Sender => "sender",
+            Command::Receiver => "receiver",
+            Command::Seal => "seal",
+            Command::Open => "open",
+            Command::Loss => "loss",
         })
     }
 }
 
 impl Command {
-    /// Reads a line and answers its command. An empty line, and one that begins with `#`, holds none.
-    pub fn read(heap: Global, line: &[u8]) -> Result<Option<(Command, Answer)>, Unreadable<'_>> {
+    /// Reads a line and answers its command. An empty line, and one that begins with `#`, holds none. A line that cannot be
+    /// read leaves the ends as they were.
+    pub fn read<'a>(
+        heap: Global,
+        ends: &mut Ends,
+        line: &'a [u8],
+    ) -> Result<Option<(Command, Answer)>, Unreadable<'a>> {
         let mut words = std::str::from_utf8(line)?.split_whitespace();
         let Some(word) = words.next().filter(|word| !word.starts_with('#')) else {
             return Ok(None);
         };
         let command = Command::try_from(word)?;
         let mut fields = Fields::read(heap, words)?;
-        let answer = command.answer(&mut fields)?;
+        let answer = command.answer(ends, &mut fields)?;
         fields.end()?;
         Ok(Some((command, answer)))
     }
 
     /// Takes what the command needs from its fields, and answers.
-    fn answer<'a>(self, fields: &mut Fields<'a>) -> Result<Answer, Unreadable<'a>> {
+    fn answer<'a>(
+        self,
+        ends: &mut Ends,
+        fields: &mut Fields<'a>,
+    ) -> Result<Answer, Unreadable<'a>> {
         match self {
             Command::Help => Ok(Answer::Help),
             Command::Recording => Ok(Answer::Recording(Listing::new(fields.bytes("data")?))),
@@ -100,6 +131,13 @@ impl Command {
             Command::Nca5Open => Ok(Answer::of(cover_commands::nca5_open(fields)?.map(
                 Answer::Bytes,
             ))),
+            Command::Frame => Ok(Answer::of(link_commands::frame(fields)?.map(Answer::Bytes))),
+            Command::Parts => Ok(Answer::Parts(FrameListing::new(fields.bytes("frame")?))),
+            Command::Sender => Ok(Answer::of(ends.make_sender(fields)?.map(|()| Answer::Ok))),
+            Command::Receiver => Ok(Answer::of(ends.make_receiver(fields)?.map(|()| Answer::Ok))),
+            Command::Seal => Ok(Answer::of(ends.seal(fields)?.map(Answer::Bytes))),
+            Command::Open => Ok(Answer::of(ends.open(fields)?.map(Answer::Received))),
+            Command::Loss => Ok(Answer::Figure(ends.loss()?)),
         }
     }
 }

@@ -2,7 +2,7 @@
 use super::answers::Covered;
 use super::errors::Unreadable;
 use super::fields::{BitField, Fields};
-use super::sources::Sources;
+use super::sources::LineGenerator;
 use cover::WORK_AREA;
 use nonces::Parameters;
 use units::Refusal;
@@ -10,7 +10,7 @@ use units::Refusal;
 /// What each call of the cover takes beside its texts and its buffers.
 #[derive(Drop)]
 struct Setting {
-    sources: Sources,
+    generator: LineGenerator,
     parameters: Parameters,
     work: Vec<u8>,
 }
@@ -18,11 +18,11 @@ struct Setting {
 impl Setting {
     /// Takes it from the fields, or answers which key text is none.
     fn take<'a>(fields: &mut Fields<'a>) -> Result<Result<Setting, Refusal>, Unreadable<'a>> {
-        let sources = fields.sources()?;
+        let generator = fields.generator()?;
         let parameters = message_parameters(fields)?;
         let work = fields.room("work", WORK_AREA)?;
-        Ok(sources.map(|sources| Setting {
-            sources,
+        Ok(generator.map(|generator| Setting {
+            generator,
             parameters,
             work,
         }))
@@ -49,9 +49,8 @@ pub fn nea5<'a>(fields: &mut Fields<'a>) -> Result<Result<Vec<u8>, Refusal>, Unr
 
 /// Fills the buffer with data covered.
 fn cover_data(mut setting: Setting, data: BitField, mut out: Vec<u8>) -> Result<Vec<u8>, Refusal> {
-    let mut generator = setting.sources.generator();
     cover::nea5(
-        &mut generator,
+        &mut setting.generator,
         setting.work.as_mut_slice(),
         &setting.parameters,
         data.as_bit_string(),
@@ -76,9 +75,8 @@ fn tag_text(
     text: BitField,
     mut tag: Vec<u8>,
 ) -> Result<Vec<u8>, Refusal> {
-    let mut generator = setting.sources.generator();
     cover::nia5(
-        &mut generator,
+        &mut setting.generator,
         setting.work.as_mut_slice(),
         &setting.parameters,
         size,
@@ -124,9 +122,8 @@ fn cover_parts(
     parts: Parts,
     mut covered: Covered,
 ) -> Result<Covered, Refusal> {
-    let mut generator = setting.sources.generator();
     cover::nca5_cover(
-        &mut generator,
+        &mut setting.generator,
         setting.work.as_mut_slice(),
         &setting.parameters,
         parts.size,
@@ -154,9 +151,8 @@ fn open_parts(
     tag: Vec<u8>,
     mut message: Vec<u8>,
 ) -> Result<Vec<u8>, Refusal> {
-    let mut generator = setting.sources.generator();
     cover::nca5_open(
-        &mut generator,
+        &mut setting.generator,
         setting.work.as_mut_slice(),
         &setting.parameters,
         parts.size,

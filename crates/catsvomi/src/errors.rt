@@ -40,6 +40,10 @@ pub enum Unreadable<'a> {
     },
     #[error("'{0}=' has more than 536870911 bytes")]
     TooLong(&'static str),
+    #[error("there is no sending end; 'sender' makes one")]
+    NoSender,
+    #[error("there is no receiving end; 'receiver' makes one")]
+    NoReceiver,
     #[error("there is no memory for it")]
     NoMemory(#[from(alloc)] AllocError),
 }

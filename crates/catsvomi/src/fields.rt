@@ -1,6 +1,6 @@
 //! A command line taken apart: a word and then fields as `key=value`.
 use super::errors::Unreadable;
-use super::sources::{Source, Sources};
+use super::sources::{LineGenerator, SourceGenerator};
 use field::Block;
 use generator::{Key, Nonce};
 use hexadecimal::Fault;
@@ -94,37 +94,37 @@ impl<'a> Fields<'a> {
         Ok(Key::from_text(self.take(key)?))
     }
 
-    /// Takes what a generator is made of: a key text or a recording, whichever is there.
-    pub fn source(
+    /// Takes what a generator is made of, and makes it: of a key text or a recording, whichever is there.
+    fn source(
         &mut self,
         key: &'static str,
         recording: &'static str,
-    ) -> Result<Result<Source, Refusal>, Unreadable<'a>> {
+    ) -> Result<Result<SourceGenerator, Refusal>, Unreadable<'a>> {
         match (self.has(key), self.has(recording)) {
             (true, true) => Err(Unreadable::Both(key, recording)),
-            (false, true) => Ok(Ok(Source::Recording(self.bytes(recording)?))),
-            _ => Ok(self.key(key)?.map(Source::Key)),
+            (false, true) => Ok(Ok(SourceGenerator::of_recording(self.bytes(recording)?))),
+            _ => Ok(self.key(key)?.map(|key| SourceGenerator::of_key(&key))),
         }
     }
 
     /// The same, if either is there.
-    pub fn optional_source(
+    fn optional_source(
         &mut self,
         key: &'static str,
         recording: &'static str,
-    ) -> Result<Result<Option<Source>, Refusal>, Unreadable<'a>> {
+    ) -> Result<Result<Option<SourceGenerator>, Refusal>, Unreadable<'a>> {
         if self.has(key) || self.has(recording) {
             return Ok(self.source(key, recording)?.map(Some));
         }
         Ok(Ok(None))
     }
 
-    /// Takes what a generator is made of: a source, and a second one if it is there. Answers why there is none if a key
-    /// text is none.
-    pub fn sources(&mut self) -> Result<Result<Sources, Refusal>, Unreadable<'a>> {
+    /// Takes what the generator of a line is made of, and makes it: of one source, or of two for a pair. Answers why there
+    /// is none if a key text is none.
+    pub fn generator(&mut self) -> Result<Result<LineGenerator, Refusal>, Unreadable<'a>> {
         let first = self.source("key", "recording")?;
         let second = self.optional_source("with_key", "with_recording")?;
-        Ok(Sources::new(first, second))
+        Ok(LineGenerator::new(first, second))
     }
 
     /// Takes a field that is a decimal number within a range.
@@ -219,8 +219,8 @@ impl<'a> Fields<'a> {
         Ok(Vec::from_elem(self.heap, Block::ZERO, count)?)
     }
 
-    /// Ends the reading: no field may be left.
-    pub fn end(self) -> Result<(), Unreadable<'a>> {
+    /// Ends the reading: no field may be left. What changes an end of the link does so only after this.
+    pub fn end(&self) -> Result<(), Unreadable<'a>> {
         match self.left.keys().next() {
             Some(key) => Err(Unreadable::Unexpected(*key)),
             None => Ok(()),

@@ -1,7 +1,7 @@
 //! The commands of AES-256 and of the generators: encryptions, keys and keystream.
 use super::errors::Unreadable;
 use super::fields::Fields;
-use super::sources::Sources;
+use super::sources::LineGenerator;
 use aes::Aes256;
 use field::Block;
 use generator::{Key, Nonce, keystream};
@@ -30,22 +30,20 @@ pub fn key<'a>(fields: &mut Fields<'a>) -> Result<Result<(), Refusal>, Unreadabl
 
 /// Keystream of a key, of a recording, or of a pair of two such.
 pub fn blocks<'a>(fields: &mut Fields<'a>) -> Result<Result<Vec<Block>, Refusal>, Unreadable<'a>> {
-    let sources = fields.sources()?;
+    let generator = fields.generator()?;
     let nonce = fields.nonce("nonce")?;
     let first = fields.index("first")?;
     let count = fields.number("count", 0..=MOST_BLOCKS)?;
     let mut out = fields.block_buffer(count as usize)?;
-    Ok(fill(sources, &nonce, first, out.as_mut_slice()).map(|()| out))
+    Ok(fill(generator, &nonce, first, out.as_mut_slice()).map(|()| out))
 }
 
 /// Fills a buffer with keystream from an index on.
 fn fill(
-    sources: Result<Sources, Refusal>,
+    generator: Result<LineGenerator, Refusal>,
     nonce: &Nonce,
     first: u64,
     out: &mut [Block],
 ) -> Result<(), Refusal> {
-    let sources = sources?;
-    let mut generator = sources.generator();
-    keystream(&mut generator, nonce, first, out)
+    keystream(&mut generator?, nonce, first, out)
 }

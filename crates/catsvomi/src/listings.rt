@@ -1,4 +1,5 @@
-//! A recording and its records, listed.
+//! A recording and its records, listed, and a frame and its parts.
+use frames::Frame;
 use hexadecimal::Hex;
 use recording::{Reader, Record, check};
 use std::fmt;
@@ -60,4 +61,50 @@ fn printable(bytes: &[u8]) -> Option<&str> {
     text.bytes()
         .all(|byte| matches!(byte, b' '..=b'~'))
         .then_some(text)
+}
+
+/// The bytes of a frame.
+#[derive(Drop)]
+pub struct FrameListing {
+    data: Vec<u8>,
+}
+
+impl FrameListing {
+    pub fn new(data: Vec<u8>) -> FrameListing {
+        FrameListing { data }
+    }
+
+    /// The refusal, if the bytes are no frame.
+    pub fn refusal(&self) -> Option<Refusal> {
+        Frame::parse(self.data.as_slice()).err()
+    }
+}
+
+/// The parts of the frame, or why it is none.
+impl fmt::Display for FrameListing {
+    fn fmt<W: fmt::Write>(&self, f: &mut fmt::Formatter<W>) -> fmt::Result {
+        match Frame::parse(self.data.as_slice()) {
+            Ok(frame) => write_frame(f, frame),
+            Err(refusal) => write!(f, "{refusal}"),
+        }
+    }
+}
+
+/// The parts, each length before what it is of. The bytes are shown as they stand in the frame.
+fn write_frame<W: fmt::Write>(f: &mut fmt::Formatter<W>, frame: Frame<'_>) -> fmt::Result {
+    let bearer = frame.line / 2;
+    let direction = frame.line % 2;
+    let size = frame.tag_size;
+    let count = frame.count;
+    write!(
+        f,
+        "bearer={bearer} direction={direction} t={size} count={count} "
+    )?;
+    let aad_bits = frame.aad.bits.0;
+    let aad = Hex(frame.aad.bytes);
+    write!(f, "aad_bits={aad_bits} aad={aad} ")?;
+    let bits = frame.ciphertext.bits.0;
+    let ciphertext = Hex(frame.ciphertext.bytes);
+    let tag = Hex(frame.tag);
+    write!(f, "bits={bits} ciphertext={ciphertext} tag={tag}")
 }

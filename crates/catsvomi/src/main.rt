@@ -10,12 +10,12 @@ mod errors;
 mod field_commands;
 mod fields;
 mod generator_commands;
+mod link_commands;
 mod listings;
+mod sessions;
 mod sources;
 
-use accounts::Account;
-use commands::Command;
-use std::io;
+use sessions::Session;
 use std::io::{BufRead, BufReader};
 
 fn main(rt: HostRuntime) -> anyhow::Result<()> {
@@ -23,27 +23,11 @@ fn main(rt: HostRuntime) -> anyhow::Result<()> {
 }
 
 fn run(rt: &HostRuntime) -> anyhow::Result<()> {
-    let mut account = Account::new(rt.alloc());
+    let mut session = Session::new(rt.alloc());
     let lines = BufReader::new(rt.alloc(), rt.stdin())?.split(rt.alloc(), b'\n');
     for (number, line) in (1..u64::MAX).zip(lines) {
-        play(rt, &mut account, number, line?.as_slice())?;
+        session.play(rt, number, line?.as_slice())?;
     }
-    println!(rt; "{account}")?;
-    Ok(())
-}
-
-/// Answers one line and enters it in the account.
-fn play(rt: &HostRuntime, account: &mut Account, number: u64, line: &[u8]) -> io::Result<()> {
-    match Command::read(rt.alloc(), line) {
-        Ok(Some((command, answer))) => {
-            println!(rt; "{answer}")?;
-            account.enter(command, answer.refusal())?;
-        }
-        Ok(None) => {}
-        Err(why) => {
-            println!(rt; "error: line {number}: {why}")?;
-            account.unreadable();
-        }
-    }
+    session.end(rt)?;
     Ok(())
 }

@@ -1,36 +1,63 @@
-//! What a line gives for a generator of keystream: a key or a recording.
+//! The generators that a line names: that of a key, that of a recording, or a pair of two such. Each has all that it is made
+//! of, so that it can live from line to line.
+ghost use Rattle.std.specs.Vec.{vec_items};
+ghost use Rattle.generator.specs.Generators.{Sound};
+ghost use Rattle.playing.specs.Playing.{played};
+
 use aes_generator::AesGenerator;
 use field::Block;
 use generator::{Generator, Key, Nonce, Pair};
 use playing::Playback;
 use units::Refusal;
 
-/// What one generator is made of.
+/// The playback of a recording with bytes of its own.
 #[derive(Drop)]
-pub enum Source {
-    Key(Key),
-    Recording(Vec<u8>),
+pub struct OwnPlayback {
+    bytes: Vec<u8>,
+    ghost sound: { Sound (played (vec_items bytes)) },
 }
 
-impl Source {
-    pub fn generator(&self) -> SourceGenerator<'_> {
-        match self {
-            Source::Key(key) => SourceGenerator::Aes(AesGenerator::new(key)),
-            Source::Recording(bytes) => {
-                SourceGenerator::Playback(Playback::new(bytes.as_slice()))
-            }
-        }
+impl OwnPlayback {
+    pub fn new(bytes: Vec<u8>) -> OwnPlayback {
+        // That it can be played says that it is sound.
+        let _lent = Playback::new(bytes.as_slice());
+        OwnPlayback { bytes }
     }
 }
 
-/// The generator of a source.
-#[derive(Drop)]
-pub enum SourceGenerator<'a> {
-    Aes(AesGenerator),
-    Playback(Playback<'a>),
+/// What a `Playback` of its bytes gives.
+impl Generator for OwnPlayback {
+    ghost meaning = { λ playback. played (vec_items playback.bytes) };
+
+    fn reach(&mut self, nonce: &Nonce) -> u64 {
+        Playback::new(self.bytes.as_slice()).reach(nonce)
+    }
+
+    fn block(&mut self, nonce: &Nonce, index: u64) -> Result<Block, Refusal> {
+        Playback::new(self.bytes.as_slice()).block(nonce, index)
+    }
+
+    ghost sound = { λ playback. playback.sound };
 }
 
-impl Generator for SourceGenerator<'_> {
+/// The generator of a key or of a recording.
+#[derive(Drop)]
+pub enum SourceGenerator {
+    Aes(AesGenerator),
+    Playback(OwnPlayback),
+}
+
+impl SourceGenerator {
+    pub fn of_key(key: &Key) -> SourceGenerator {
+        SourceGenerator::Aes(AesGenerator::new(key))
+    }
+
+    pub fn of_recording(bytes: Vec<u8>) -> SourceGenerator {
+        SourceGenerator::Playback(OwnPlayback::new(bytes))
+    }
+}
+
+impl Generator for SourceGenerator {
     ghost use Rattle.catsvomi.specs.Sources.{source_meaning, source_sound};
 
     ghost meaning = { source_meaning };
@@ -52,42 +79,28 @@ impl Generator for SourceGenerator<'_> {
     ghost sound = { source_sound };
 }
 
-/// What the generator of a line is made of: one source, or two for a pair.
+/// The generator of a line: that of one source, or the pair of two.
 #[derive(Drop)]
-pub struct Sources {
-    first: Source,
-    second: Option<Source>,
+pub enum LineGenerator {
+    One(SourceGenerator),
+    Two(Pair<SourceGenerator, SourceGenerator>),
 }
 
-impl Sources {
-    /// The sources of a line, unless a key text is none. The first that is none is named.
+impl LineGenerator {
+    /// The generator of the sources of a line, unless a key text is none. The first that is none is named.
     pub fn new(
-        first: Result<Source, Refusal>,
-        second: Result<Option<Source>, Refusal>,
-    ) -> Result<Sources, Refusal> {
+        first: Result<SourceGenerator, Refusal>,
+        second: Result<Option<SourceGenerator>, Refusal>,
+    ) -> Result<LineGenerator, Refusal> {
         let first = first?;
-        let second = second?;
-        Ok(Sources { first, second })
-    }
-
-    /// The generator of the one source, or the pair of the two.
-    pub fn generator(&self) -> LineGenerator<'_> {
-        let first = self.first.generator();
-        match &self.second {
+        Ok(match second? {
             None => LineGenerator::One(first),
-            Some(second) => LineGenerator::Two(Pair::new(first, second.generator())),
-        }
+            Some(second) => LineGenerator::Two(Pair::new(first, second)),
+        })
     }
 }
 
-/// The generator of a line.
-#[derive(Drop)]
-pub enum LineGenerator<'a> {
-    One(SourceGenerator<'a>),
-    Two(Pair<SourceGenerator<'a>, SourceGenerator<'a>>),
-}
-
-impl Generator for LineGenerator<'_> {
+impl Generator for LineGenerator {
     ghost use Rattle.catsvomi.specs.Sources.{line_meaning, line_sound};
 
     ghost meaning = { line_meaning };
