@@ -2,7 +2,9 @@
 #![tactic(auto)]
 
 mod covers;
+mod examples;
 mod generators;
 mod known_values;
+mod links;
 mod recordings;
 mod refusals;
