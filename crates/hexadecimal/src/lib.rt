@@ -1,7 +1,7 @@
 //! Bytes as hexadecimal text: two characters to a byte, the high digit first.
 #![tactic(auto)]
 
-ghost use Rattle.std.specs.Prelude.{◌≡◌, ◌<◌, ◌↔◌, ℕ, List, All, Some, None, is_some, IsSome, IfOk, MatchResult, IsErrOf, codes};
+ghost use Rattle.std.specs.Prelude.{◌≡◌, ◌<◌, ◌↔◌, ℕ, List, All, Some, None, is_some, IsSome, IfOk, MatchResult, IsErrOf, codes, length};
 ghost use Rattle.hexadecimal.specs.Hex.{byte, decoded, digit, shown, written};
 ghost use Rattle.hexadecimal.specs.declared.Fault.TheVariants.{Text, Memory};
 
@@ -70,12 +70,12 @@ fn is_hexadecimal(text: &str) -> bool
             .all(|[high, low]| byte_value(*high, *low).is_some())
 }
 
-/// The bytes that a text stands for. Want of memory is told only of a text that stands for some.
+/// The bytes that a text stands for. Want of memory is told only of a text that stands for some, and never of the empty one.
 #[tactic(auto, using(crate::proofs::HexLaws::decoding))]
 pub fn decode(heap: Global, text: &str) -> Result<Vec<u8>, Fault>
     ensures bytes { IfOk result (λ bytes. decoded text.now ≡ Some bytes.items) }
     ensures text { IsErrOf result Text ↔ (decoded text.now ≡ None) }
-    ensures memory { IsErrOf result Memory → IsSome (decoded text.now) }
+    ensures memory { IsErrOf result Memory → IsSome (decoded text.now) × (0 < length text.now) }
     // Pairs of digits as `Hex` writes them give back the bytes, unless memory fails.
     ensures round_trip { (bytes : List ℕ) → All (λ b. b < 256) bytes → text.now ≡ written bytes
         → MatchResult result (λ read. read.items ≡ bytes) (λ fault. fault ≡ Memory) }

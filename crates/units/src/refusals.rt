@@ -1,6 +1,7 @@
 //! How a call says no: a reason, which has a number, the layer that it names, and a place.
 ghost use Rattle.std.specs.Prelude.{◌≡◌, Some};
 ghost use Rattle.units.specs.Refusals.{line, number, word};
+ghost use Rattle.units.specs.InWords.{explained, words};
 
 use std::error::Error;
 use std::fmt;
@@ -99,6 +100,8 @@ impl fmt::Display for Layer {
 
 /// The reason in a few words, for people.
 impl fmt::Display for Reason {
+    ghost output = { λ r. Some (words r) };
+
     fn fmt<W: fmt::Write>(&self, f: &mut fmt::Formatter<W>) -> fmt::Result {
         f.write_str(match self {
             Reason::WorkArea => "work area is not 64 bytes",
@@ -137,6 +140,8 @@ impl Error for Refusal {}
 
 /// The same, and after it the reason in words.
 impl fmt::Display for Explained {
+    ghost output = { λ e. Some (explained e.0) };
+
     fn fmt<W: fmt::Write>(&self, f: &mut fmt::Formatter<W>) -> fmt::Result {
         let refusal = self.0;
         let reason = refusal.reason;
