@@ -6,6 +6,7 @@ use Rattle.cover.specs.Tags.{tag_under}
 use Rattle.cover.proofs.CallLaws.{reaches}
 use Rattle.cover.proofs.StreamLaws.{covered_same}
 use Rattle.cover.proofs.TagLaws.{tag_same}
+use Rattle.cover.proofs.CoverLaws.{nca5_stands}
 use Rattle.cover.proofs.combined.nca5_cover.Goals as goal
 
 pub returns-clause-outcome : goal.returns-clause-outcome
@@ -38,3 +39,27 @@ returns-clause-outcome g c =
     in
     let size_is : size ≡ c.args.tag_size = search rules in
     search rules
+
+pub returns-in_err-refuse_if-clause-stands : goal.returns-in_err-refuse_if-clause-stands
+returns-in_err-refuse_if-clause-stands g c = nca5_stands
+
+pub returns-in_err-keys-clause-stands : goal.returns-in_err-keys-clause-stands
+returns-in_err-keys-clause-stands g c = nca5_stands
+
+pub returns-in_err-stream-clause-stands : goal.returns-in_err-stream-clause-stands
+returns-in_err-stream-clause-stands g c = nca5_stands
+
+pub returns-in_err-refuse_if-2-clause-stands : goal.returns-in_err-refuse_if-2-clause-stands
+returns-in_err-refuse_if-2-clause-stands g c = nca5_stands
+
+pub returns-in_err-refuse_if-3-clause-stands : goal.returns-in_err-refuse_if-3-clause-stands
+returns-in_err-refuse_if-3-clause-stands g c = nca5_stands
+
+pub returns-in_err-refuse_short-clause-stands : goal.returns-in_err-refuse_short-clause-stands
+returns-in_err-refuse_short-clause-stands g c = nca5_stands
+
+pub returns-in_err-refuse_short-2-clause-stands : goal.returns-in_err-refuse_short-2-clause-stands
+returns-in_err-refuse_short-2-clause-stands g c = nca5_stands
+
+pub returns-clause-stands : goal.returns-clause-stands
+returns-clause-stands g c = nca5_stands

@@ -5,6 +5,7 @@ use Rattle.cover.specs.Keystream.{covered}
 use Rattle.cover.proofs.CallLaws.{reaches}
 use Rattle.cover.proofs.StreamLaws.{covered_same}
 use Rattle.cover.proofs.TagLaws.{tag_same}
+use Rattle.cover.proofs.CoverLaws.{nca5_stands}
 use Rattle.cover.proofs.combined.nca5_open.Goals as goal
 
 pub returns-in_err-refuse_if-5-clause-outcome : goal.returns-in_err-refuse_if-5-clause-outcome
@@ -57,3 +58,33 @@ returns-clause-outcome g c =
     in
     let size_is : length tag ≡ c.args.tag_size = search rules in
     search rules
+
+pub returns-in_err-refuse_if-clause-stands : goal.returns-in_err-refuse_if-clause-stands
+returns-in_err-refuse_if-clause-stands g c = nca5_stands
+
+pub returns-in_err-keys-clause-stands : goal.returns-in_err-keys-clause-stands
+returns-in_err-keys-clause-stands g c = nca5_stands
+
+pub returns-in_err-stream-clause-stands : goal.returns-in_err-stream-clause-stands
+returns-in_err-stream-clause-stands g c = nca5_stands
+
+pub returns-in_err-refuse_if-2-clause-stands : goal.returns-in_err-refuse_if-2-clause-stands
+returns-in_err-refuse_if-2-clause-stands g c = nca5_stands
+
+pub returns-in_err-refuse_if-3-clause-stands : goal.returns-in_err-refuse_if-3-clause-stands
+returns-in_err-refuse_if-3-clause-stands g c = nca5_stands
+
+pub returns-in_err-refuse_if-4-clause-stands : goal.returns-in_err-refuse_if-4-clause-stands
+returns-in_err-refuse_if-4-clause-stands g c = nca5_stands
+
+pub returns-in_err-refuse_short-clause-stands : goal.returns-in_err-refuse_short-clause-stands
+returns-in_err-refuse_short-clause-stands g c = nca5_stands
+
+pub returns-in_err-refuse_short-2-clause-stands : goal.returns-in_err-refuse_short-2-clause-stands
+returns-in_err-refuse_short-2-clause-stands g c = nca5_stands
+
+pub returns-in_err-refuse_if-5-clause-stands : goal.returns-in_err-refuse_if-5-clause-stands
+returns-in_err-refuse_if-5-clause-stands g c = nca5_stands
+
+pub returns-clause-stands : goal.returns-clause-stands
+returns-clause-stands g c = nca5_stands
