@@ -5,12 +5,9 @@
 #include <stdio.h>
 #include <stdlib.h>
 #include <string.h>
+#include "calls.h"
 #include "plain.h"
 #include "timing.h"
-
-/* The exported calls, of crates/bench. */
-void bench_aes256(const uint8_t key[32], uint8_t block[16], uint32_t turns);
-void bench_keystream(const uint8_t key[32], const uint8_t nonce[12], uint32_t count, uint8_t out[16]);
 
 enum { TURNS = 4000, KEYS = 500, COMPARED = 2000 };
 

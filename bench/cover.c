@@ -6,18 +6,9 @@
 #include <stdio.h>
 #include <stdlib.h>
 #include <string.h>
+#include "calls.h"
 #include "plain.h"
 #include "timing.h"
-
-/* The exported calls, of crates/bench. A slice is a pointer and then a length. */
-void bench_nea5(const uint8_t key[32], uint32_t count, uint32_t turns, uint32_t bits, const uint8_t *input, size_t input_length,
-                uint8_t *output, size_t output_length);
-void bench_nca5_cover(const uint8_t key[32], uint32_t count, uint32_t turns, uint32_t aad_bits, const uint8_t *aad,
-                      size_t aad_length, uint32_t bits, const uint8_t *message, size_t length, uint8_t *ciphertext,
-                      size_t ciphertext_length, uint8_t *tag, size_t tag_length);
-void bench_nca5_open(const uint8_t key[32], uint32_t count, uint32_t turns, uint32_t aad_bits, const uint8_t *aad,
-                     size_t aad_length, uint32_t bits, const uint8_t *ciphertext, size_t length, const uint8_t *tag,
-                     size_t tag_length, uint8_t *message, size_t message_length);
 
 enum { COMPARED = 3000, LONGEST_COMPARED = 200, BEARER = 5, DIRECTION = 0, AAD = 64, TAG = 16 };
 

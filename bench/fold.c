@@ -5,11 +5,9 @@
 #include <stdio.h>
 #include <stdlib.h>
 #include <string.h>
+#include "calls.h"
 #include "plain.h"
 #include "timing.h"
-
-/* The exported call, of crates/bench. A slice is a pointer and then a length. */
-void bench_fold(const uint8_t h[16], uint8_t value[16], uint32_t bits, const uint8_t *bytes, size_t length);
 
 enum { BLOCKS_A_ROUND = 20000 };
 

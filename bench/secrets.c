@@ -9,17 +9,13 @@
 #include <stdio.h>
 #include <string.h>
 #include <valgrind/memcheck.h>
+#include "calls.h"
 
-void bench_fold(const uint8_t h[16], uint8_t value[16], uint32_t bits, const uint8_t *bytes, size_t length);
-void bench_tag(const uint8_t h[16], const uint8_t q[16], const uint8_t p[16], uint32_t aad_bits, const uint8_t *aad,
-               size_t aad_length, uint32_t bits, const uint8_t *ciphertext, size_t length, uint8_t *out, size_t out_length);
-void bench_aes256(const uint8_t key[32], uint8_t block[16], uint32_t turns);
-void bench_keystream(const uint8_t key[32], const uint8_t nonce[12], uint32_t count, uint8_t out[16]);
-void bench_nea5(const uint8_t key[32], uint32_t count, uint32_t turns, uint32_t bits, const uint8_t *input, size_t input_length,
-                uint8_t *output, size_t output_length);
-void bench_nca5_cover(const uint8_t key[32], uint32_t count, uint32_t turns, uint32_t aad_bits, const uint8_t *aad,
-                      size_t aad_length, uint32_t bits, const uint8_t *message, size_t length, uint8_t *ciphertext,
-                      size_t ciphertext_length, uint8_t *tag, size_t tag_length);
+static void make_secret(uint8_t *bytes, size_t length, int filled_with)
+{
+    memset(bytes, filled_with, length);
+    (void)VALGRIND_MAKE_MEM_UNDEFINED(bytes, length);
+}
 
 int main(int count, char **words)
 {
@@ -27,20 +23,13 @@ int main(int count, char **words)
     static const uint8_t nonce[12] = {1, 2, 3};
     uint8_t h[16], q[16], p[16], value[16], bytes[1400], tag[16], key[32], block[16], keystream[16];
     uint8_t output[1400] = {0}, ciphertext[1400] = {0}, tag_of_ciphertext[16] = {0};
-    memset(h, 3, sizeof h);
-    memset(q, 4, sizeof q);
-    memset(p, 6, sizeof p);
-    memset(value, 5, sizeof value);
-    memset(bytes, 7, sizeof bytes);
-    memset(key, 8, sizeof key);
-    memset(block, 9, sizeof block);
-    VALGRIND_MAKE_MEM_UNDEFINED(h, sizeof h);
-    VALGRIND_MAKE_MEM_UNDEFINED(q, sizeof q);
-    VALGRIND_MAKE_MEM_UNDEFINED(p, sizeof p);
-    VALGRIND_MAKE_MEM_UNDEFINED(value, sizeof value);
-    VALGRIND_MAKE_MEM_UNDEFINED(bytes, sizeof bytes);
-    VALGRIND_MAKE_MEM_UNDEFINED(key, sizeof key);
-    VALGRIND_MAKE_MEM_UNDEFINED(block, sizeof block);
+    make_secret(h, sizeof h, 3);
+    make_secret(q, sizeof q, 4);
+    make_secret(p, sizeof p, 6);
+    make_secret(value, sizeof value, 5);
+    make_secret(bytes, sizeof bytes, 7);
+    make_secret(key, sizeof key, 8);
+    make_secret(block, sizeof block, 9);
     for (size_t i = 0; i < sizeof lengths / sizeof *lengths; i++) {
         uint32_t bits = (uint32_t)(8 * lengths[i]);
         bench_fold(h, value, bits, bytes, lengths[i]);

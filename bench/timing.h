@@ -1,7 +1,9 @@
-/* What the measuring programs share: figures of many rounds, in nanoseconds and in cycles of the time stamp counter. */
+/* What the measuring programs share: figures of many rounds, in nanoseconds of the process's own processor time, and in cycles of the
+ * time stamp counter, which also counts while other processes have the processor. */
 #ifndef TIMING_H
 #define TIMING_H
 
+#include <stddef.h>
 #include <stdint.h>
 #include <stdlib.h>
 #include <time.h>
@@ -19,20 +21,27 @@ struct figures {
     double ns_median, ns_least, tsc_median, tsc_least;
 };
 
-static double nanoseconds(void)
+static inline double nanoseconds(void)
 {
     struct timespec now;
-    clock_gettime(CLOCK_MONOTONIC, &now);
+    clock_gettime(CLOCK_PROCESS_CPUTIME_ID, &now);
     return now.tv_sec * 1e9 + now.tv_nsec;
 }
 
-static int by_value(const void *a, const void *b)
+static inline int by_value(const void *a, const void *b)
 {
     double x = *(const double *)a, y = *(const double *)b;
     return (x > y) - (x < y);
 }
 
-static void warm_up(measured *run, uint32_t times)
+/* Sorts the values, so that the first is the least. */
+static inline double median(double *values, size_t rounds)
+{
+    qsort(values, rounds, sizeof *values, by_value);
+    return values[rounds / 2];
+}
+
+static inline void warm_up(measured *run, uint32_t times)
 {
     double started = nanoseconds();
     while (nanoseconds() - started < WARM_UP)
@@ -40,7 +49,7 @@ static void warm_up(measured *run, uint32_t times)
 }
 
 /* The figures of one of the `each` things that are done each time. */
-static struct figures measure(measured *run, uint32_t times, double each)
+static inline struct figures measure(measured *run, uint32_t times, double each)
 {
     double ns[ROUNDS], tsc[ROUNDS];
     for (int round = 0; round < ROUNDS; round++) {
@@ -50,9 +59,8 @@ static struct figures measure(measured *run, uint32_t times, double each)
         tsc[round] = (double)(__rdtsc() - counted) / (times * each);
         ns[round] = (nanoseconds() - started) / (times * each);
     }
-    qsort(ns, ROUNDS, sizeof *ns, by_value);
-    qsort(tsc, ROUNDS, sizeof *tsc, by_value);
-    return (struct figures){ns[ROUNDS / 2], ns[0], tsc[ROUNDS / 2], tsc[0]};
+    double ns_median = median(ns, ROUNDS), tsc_median = median(tsc, ROUNDS);
+    return (struct figures){ns_median, ns[0], tsc_median, tsc[0]};
 }
 
 #endif
