@@ -1,4 +1,4 @@
-//! The example of the README, as it stands there, with a control room that does nothing on a message.
+//! The example of a link in the README, as it stands there, with a control room that does nothing on a message.
 use aes_generator::AesGenerator;
 use cover::WORK_AREA;
 use frames::{FRAME_BUFFER, MESSAGE_BUFFER};
