@@ -1,3 +1,4 @@
 pub mod Blocks
 pub mod Folds
 pub mod Tags
+pub mod Laws

@@ -1,5 +1,5 @@
 -- The tag, from H, Q and P.
-use Rattle.std.specs.Prelude.{◌≡◌, ℕ, List, [], ◌∷◌, ◌++◌, length, take}
+use Rattle.std.specs.Prelude.{◌≡◌, ℕ, ◌≤◌, List, [], ◌∷◌, ◌++◌, length, take}
 use Rattle.std.specs.Simd.Lanes.{digits_l}
 use Rattle.units.specs.Strings.{Octets}
 use Rattle.units.specs.Sums.{◌⊕◌, sums}
@@ -32,3 +32,10 @@ TagStands =
     → Octets ciphertext'
     → sums (tag h q p t aad_bits aad bits ciphertext) (tag h q p t aad_bits aad' bits ciphertext')
     ≡ take t (block_bytes (pdot (fold h (fold h 0 aad_bits (sums aad aad')) bits (sums ciphertext ciphertext')) q))
+
+-- a tag of at most sixteen bytes is as long as is asked
+abbrev pub TagLong : Type 0
+TagLong =
+    (h q p t aad_bits bits : ℕ) (aad ciphertext : List ℕ)
+    → t ≤ 16
+    → length (tag h q p t aad_bits aad bits ciphertext) ≡ t

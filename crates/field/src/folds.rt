@@ -13,6 +13,7 @@ pub fn fold(h: Block, v: Block, input: BitString<'_>) -> Block
     ensures value { result.0 ≡ fold h.0 v.0 input.entry.bits.0 input.entry.bytes.now }
     ensures stands { FoldStands }
 {
+    polynomials::laws();
     let (whole, left) = input.bits.split();
     let (chunks, _) = input.bytes.as_chunks::<16>();
     let full = chunks.len().min(whole as usize);

@@ -21,6 +21,7 @@ impl TagKeys {
         ensures after { out.new ≡ tag self.now.h.0 self.now.q.0 self.now.p.0 (length out.old) aad.entry.bits.0 aad.entry.bytes.now ciphertext.entry.bits.0 ciphertext.entry.bytes.now ++ drop 16 out.old }
         ensures stands { TagStands }
     {
+        polynomials::laws();
         let whole = self.whole_tag(aad, ciphertext).to_bytes();
         let size = out.len().min(16);
         out[..size].copy_from_slice(&whole[..size]);

@@ -83,6 +83,7 @@ pub field_stands : FieldStands
 field_stands =
     record {
       inverse_is = inverse_is;
+      below = pdot_lt;
       additive_left = pdot-xor_l;
       additive_right = pdot-xor_r;
       commutative = pdot_comm;

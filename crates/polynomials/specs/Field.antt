@@ -24,6 +24,7 @@ one = 2 ^ 127 + 2 ^ 126 + 2 ^ 121 + 1
 -- the laws of the field's product
 pub record FieldStands : Type 0 where
   pub inverse_is : remainder (product inverse (2 ^ 128)) ≡ 1
+  pub below : (a b : ℕ) → pdot a b < 2 ^ 128
   pub additive_left : (a b c : ℕ) → pdot (a ⊕ b) c ≡ pdot a c ⊕ pdot b c
   pub additive_right : (a b c : ℕ) → pdot a (b ⊕ c) ≡ pdot a b ⊕ pdot a c
   pub commutative : (a b : ℕ) → pdot a b ≡ pdot b a

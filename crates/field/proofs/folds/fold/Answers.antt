@@ -30,4 +30,4 @@ returns c =
     let both = folded-append c.args.h.0 c.args.v.0 (map polynomial front) back in
     let chunks = blocks_chunks full (length bytes / 16) bits bytes (omega arith) (omega arith) (omega arith) in
     let taken = c.as_chunks.ensures.front in
-    record { value = cc; stands = fold_stands }
+    record { value = cc; stands = fold_stands c.laws.ensures }
