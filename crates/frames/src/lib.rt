@@ -149,3 +149,9 @@ fn broken_if(met: bool, place: u64) -> Result<(), Refusal>
         Ok(())
     }
 }
+
+/// What the layers above rest on. It does nothing: a caller's proof has the laws from its contract.
+#[tactic(auto, using(crate::proofs::FrameLaws::frames_stand))]
+pub fn laws()
+    ensures { FramesStand }
+{}

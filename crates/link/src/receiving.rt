@@ -75,6 +75,7 @@ impl<G: Generator> Receiver<G> {
         ensures settings { self.new.settings ≡ self.old.settings }
         ensures same { Same (G.meaning self.old.generator) (G.meaning self.new.generator) }
     {
+        frames::laws();
         let area = WorkArea::new(work);
         refuse_if(area.len() != WORK_AREA, Reason::WorkArea)?;
         refuse_if(message.len() < MESSAGE_BUFFER.0, Reason::OutputBytes)?;

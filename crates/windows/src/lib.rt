@@ -125,3 +125,9 @@ pub fn refuse(reason: Reason) -> Refusal
         place: 0,
     }
 }
+
+/// What the layers above rest on. It does nothing: a caller's proof has the laws from its contract.
+#[tactic(auto, using(crate::proofs::WindowLaws::window_tells))]
+pub fn laws()
+    ensures { WindowTells }
+{}

@@ -1,4 +1,4 @@
-use Rattle.std.proofs.Common.{rules}
+use Rattle.std.proofs.Common.{rules, arith}
 use Rattle.frames.specs.Frames.{view}
 use Rattle.link.proofs.OpenLaws.{aad_within, message_within, told_some, written_err}
 use Rattle.link.proofs.receiving.Receiver.open.Goals as goal
@@ -18,4 +18,5 @@ returns-clause-message_within g c = message_within (view c.in_ok-parts.parts) c.
 
 pub returns-clause-aad_within : goal.returns-clause-aad_within
 returns-clause-aad_within g c =
-    aad_within c.args.self.now.settings.terms c.args.frame.now (view c.in_ok-parts.parts) c.in_ok-parts.ensures.tests c.in_ok-parts.ensures.parts
+    aad_within c.laws.ensures c.args.self.now.settings.terms c.args.frame.now (view c.in_ok-parts.parts) (λ k. omega (arith, c.type_inv.frame k))
+    c.in_ok-parts.ensures.tests c.in_ok-parts.ensures.parts
