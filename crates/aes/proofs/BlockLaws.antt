@@ -11,10 +11,10 @@ use Rattle.byte_field.proofs.NumberLaws.{number_lt}
 use Rattle.byte_field.proofs.SboxLaws.{sbox_lt}
 use Rattle.byte_field.proofs.WireLaws.{bit_lt}
 use Rattle.byte_field.specs.Sbox.{sbox}
+use Rattle.aes.specs.Blocks.{EncryptsToBlocks}
 use Rattle.aes.specs.Cipher.{cipher, round_key, rounds, shift_rows}
 use Rattle.aes.specs.KeyExpansion.{aes256, round_keys_of}
 use Rattle.aes.specs.RoundKeys.{key_of}
-use Rattle.aes.specs.declared.cipher.Aes256.{Aes256}
 use Rattle.aes.specs.declared.round_keys.RoundKey.{RoundKey}
 
 state_sixteen : (q : Planes) → length (state q 0) ≡ 16
@@ -32,24 +32,27 @@ one_of_all P h [] i l = absurd (omega arith)
 one_of_all P h (k ∷ ks) zero l = h k
 one_of_all P h (k ∷ ks) (suc i) l = one_of_all P h ks i (omega arith)
 
-module _ (a : Aes256) where
-  last_key : (P : List ℕ → Type 0) → ((k : RoundKey) → P (key_of k)) → P (round_key (round_keys_of a.key) 14)
+module _ (key : List ℕ) (keys : List RoundKey) (expanded : map key_of keys ≡ round_keys_of key) where
+  last_key : (P : List ℕ → Type 0) → ((k : RoundKey) → P (key_of k)) → P (round_key (round_keys_of key) 14)
   unfolding round_keys_of
   last_key P h =
-      let size : length a.round_keys ≡ 15 = sym (length-map a.round_keys key_of) ∙ ap length a.expanded in
-      subst (λ ks. P (get_or ks 14 [])) a.expanded (one_of_all P h a.round_keys 14 (omega arith))
+      let size : length keys ≡ 15 = sym (length-map keys key_of) ∙ ap length expanded in
+      subst (λ ks. P (get_or ks 14 [])) expanded (one_of_all P h keys 14 (omega arith))
 
-  pub encrypted_sixteen : (block : List ℕ) → length (aes256 a.key block) ≡ 16
+  encrypted_sixteen : (block : List ℕ) → length (aes256 key block) ≡ 16
   unfolding aes256 cipher shift_rows
   encrypted_sixteen block =
       let last = last_key (λ k. length k ≡ 16) (λ k. state_sixteen k.planes) in
-      length-sums (shift_rows (map sbox (rounds (round_keys_of a.key) 13 block))) (round_key (round_keys_of a.key) 14) (omega arith)
+      length-sums (shift_rows (map sbox (rounds (round_keys_of key) 13 block))) (round_key (round_keys_of key) 14) (omega arith)
 
-  pub encrypted_octets : (block : List ℕ) → Octets (aes256 a.key block)
+  encrypted_octets : (block : List ℕ) → Octets (aes256 key block)
   unfolding aes256 cipher shift_rows
   encrypted_octets block =
-      let s = map sbox (rounds (round_keys_of a.key) 13 block) in
-      Octets-sums (shift_rows s) (round_key (round_keys_of a.key) 14)
+      let s = map sbox (rounds (round_keys_of key) 13 block) in
+      Octets-sums (shift_rows s) (round_key (round_keys_of key) 14)
       (Octets-map (λ k. get_or s (k % 4 + 4 * ((k / 4 + k % 4) % 4)) 0) (range_with_len 0 16)
-      (λ k. Octets-map sbox (rounds (round_keys_of a.key) 13 block) sbox_lt (k % 4 + 4 * ((k / 4 + k % 4) % 4))))
+      (λ k. Octets-map sbox (rounds (round_keys_of key) 13 block) sbox_lt (k % 4 + 4 * ((k / 4 + k % 4) % 4))))
       (last_key Octets (λ k. state_octets k.planes))
+
+  pub encrypts_to_blocks : EncryptsToBlocks key
+  encrypts_to_blocks = record { sixteen = encrypted_sixteen; octets = encrypted_octets }

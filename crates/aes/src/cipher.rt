@@ -28,6 +28,7 @@ pub struct Aes256 {
 }
 
 impl Aes256 {
+    ghost use Rattle.aes.specs.Blocks.{EncryptsToBlocks};
     ghost use Rattle.aes.specs.Example.{ExampleStands};
     ghost use Rattle.aes.specs.KeyExpansion.{aes256};
 
@@ -36,6 +37,7 @@ impl Aes256 {
     pub fn new(key: &[u8; 32]) -> Aes256
         ensures key { result.key ≡ key.now }
         ensures example { ExampleStands }
+        ensures blocks { EncryptsToBlocks key.now }
     {
         let words = key_expansion(key);
         let mut round_keys = [RoundKey::new([0; 16]); ROUND_KEYS];

@@ -1,13 +1,15 @@
 -- The blocks that AES-256 makes as a generator.
-use Rattle.std.proofs.Common.{◌≡◌, ℕ, ◌+◌, List, [], ◌∷◌, ◌++◌, append-nil, map, length, take, drop, ap, ◌∙◌, ap₂}
+use Rattle.std.proofs.Common.{◌≡◌, ℕ, ◌+◌, List, [], ◌∷◌, ◌++◌, append-nil, map, length, take, drop, ap, ◌∙◌, ap₂, arith}
 use borrow.Rule.Slice.PartMut.{put_mid}
 use Rattle.std.specs.List.{range_with_len}
 use Rattle.std.proofs.lemmas.List.{drop_at, take_at}
 use Rattle.std.proofs.lemmas.Simd.{map-map}
 use Rattle.units.specs.Strings.{four}
 use Rattle.units.proofs.FillLaws.{filled, filled_all}
+use Rattle.aes.specs.Blocks.{EncryptsToBlocks}
 use Rattle.aes.specs.KeyExpansion.{aes256}
-use Rattle.aes_generator.specs.AesGenerator.{counter_block}
+use Rattle.generator.specs.Generators.{Sound}
+use Rattle.aes_generator.specs.AesGenerator.{aes_meaning, counter_block}
 
 pub counter_written :
     (n new last : List ℕ) (i : ℕ) → length new ≡ 12 → new ≡ n → last ≡ four i
@@ -26,3 +28,12 @@ pub all_right :
     → blocks ≡ map (λ i. aes256 key (counter_block n (first + i))) (range_with_len 0 8)
 all_right key n first i cs blocks l h e f =
     f ∙ ap (map (aes256 key)) (filled_all (counter_from n first) cs i 8 l h e) ∙ map-map (aes256 key) (counter_from n first) (range_with_len 0 8)
+
+-- what AES means as a generator is sound, since each encryption is a block
+pub aes_sound : (key : List ℕ) → EncryptsToBlocks key → Sound (aes_meaning key)
+aes_sound key encrypts =
+    record {
+      near = λ n. omega arith;
+      sixteen = λ n i h. encrypts.sixteen (counter_block n i);
+      octets = λ n i h. encrypts.octets (counter_block n i);
+    }

@@ -1,2 +1,1 @@
 pub mod AesGenerator
-pub mod Soundness

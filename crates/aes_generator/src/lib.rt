@@ -3,7 +3,8 @@
 #![tactic(auto)]
 
 ghost use Rattle.std.specs.Prelude.{◌≡◌, ◌≤◌, ◌+◌, ◌^◌};
-ghost use Rattle.aes_generator.specs.AesGenerator.{Right, counter_block};
+ghost use Rattle.generator.specs.Generators.{Sound};
+ghost use Rattle.aes_generator.specs.AesGenerator.{Right, aes_meaning, counter_block};
 
 use aes::Aes256;
 use field::Block;
@@ -31,6 +32,7 @@ struct Batch {
 pub struct AesGenerator {
     aes: Aes256,
     kept: Batch,
+    ghost sound: { Sound (aes_meaning aes.key) },
     ghost right: { Right aes.key kept },
 }
 
@@ -47,9 +49,6 @@ impl AesGenerator {
 }
 
 impl Generator for AesGenerator {
-    ghost use Rattle.aes_generator.specs.AesGenerator.{aes_meaning};
-    ghost use Rattle.aes_generator.specs.Soundness.{aes_sound};
-
     ghost meaning = { λ generator. aes_meaning generator.aes.key };
 
     fn reach(&mut self, _nonce: &Nonce) -> u64 {
@@ -68,7 +67,7 @@ impl Generator for AesGenerator {
         Ok(Block::from_bytes(&self.kept.blocks[place as usize]))
     }
 
-    ghost sound = { λ generator. aes_sound generator.aes };
+    ghost sound = { λ generator. generator.sound };
 }
 
 impl Batch {

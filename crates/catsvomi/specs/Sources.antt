@@ -4,7 +4,6 @@ use Rattle.generator.specs.Generators.{Meaning, Sound}
 use Rattle.generator.specs.Pairs.{both}
 use Rattle.generator.specs.Soundness.{both_sound}
 use Rattle.aes_generator.specs.AesGenerator.{aes_meaning}
-use Rattle.aes_generator.specs.Soundness.{aes_sound}
 use Rattle.playing.specs.Playing.{played}
 use Rattle.catsvomi.specs.declared.sources.SourceGenerator.{SourceGenerator}
 use Rattle.catsvomi.specs.declared.sources.SourceGenerator.TheVariants.{Aes, Playback}
@@ -18,7 +17,7 @@ source_meaning (Playback g) = played (vec_items g.bytes)
 
 -- that meaning is sound: at most 2^32 blocks under a nonce, each of sixteen bytes
 pub source_sound : (g : SourceGenerator) → Sound (source_meaning g)
-source_sound (Aes g) = aes_sound g.aes
+source_sound (Aes g) = g.sound
 source_sound (Playback g) = g.sound
 
 -- the meaning of the one source, or of the pair

@@ -1,6 +1,7 @@
 use Rattle.std.proofs.Common.{rules, length-set, ◌∙◌, refl}
 use Rattle.units.proofs.FillLaws.{filled_none}
 use Rattle.aes.specs.KeyExpansion.{round_key_of}
+use Rattle.aes.proofs.BlockLaws.{encrypts_to_blocks}
 use Rattle.aes.proofs.CipherLaws.{all_keys, key_more}
 use Rattle.aes.proofs.cipher.Aes256.new.Goals as goal
 
@@ -20,3 +21,9 @@ invariant_of-result c =
     record {
       expanded = all_keys c.args.key.now c.key_expansion-words.result l.round_keys l.round l.invariant.0 (search rules) c.key_expansion-words.ensures l.invariant.1;
     }
+
+pub returns-clause-blocks : goal.returns-clause-blocks
+returns-clause-blocks c =
+    let l = c.loop-round in
+    encrypts_to_blocks c.args.key.now l.round_keys
+    (all_keys c.args.key.now c.key_expansion-words.result l.round_keys l.round l.invariant.0 (search rules) c.key_expansion-words.ensures l.invariant.1)
