@@ -1,5 +1,5 @@
 -- That an encryption is a block: sixteen bytes.
-use Rattle.std.proofs.Common.{◌≡◌, ℕ, zero, suc, ◌+◌, ◌*◌, ◌/◌, ◌%◌, ◌<◌, List, [], ◌∷◌, map, length, get_or, sym, refl, ap, subst, ◌∙◌, arith}
+use Rattle.std.proofs.Common.{◌≡◌, ℕ, zero, suc, ◌+◌, ◌*◌, ◌/◌, ◌%◌, ◌^◌, ◌<◌, List, [], ◌∷◌, map, length, get_or, sym, refl, ap, subst, ◌∙◌, arith, lit<, mod-lt}
 use Rattle.std.specs.List.{range_with_len}
 use Rattle.std.proofs.lemmas.List.{length-map}
 use Rattle.units.specs.Strings.{Octets}
@@ -8,9 +8,7 @@ use Rattle.units.proofs.SumLaws.{Octets-sums, length-sums}
 use Rattle.planes.specs.declared.Planes.{Planes}
 use Rattle.planes.specs.Planes.{bit, byte, planes, state}
 use Rattle.byte_field.proofs.NumberLaws.{number_lt}
-use Rattle.byte_field.proofs.SboxLaws.{sbox_lt}
-use Rattle.byte_field.proofs.WireLaws.{bit_lt}
-use Rattle.byte_field.specs.Sbox.{sbox}
+use Rattle.byte_field.specs.Sbox.{SboxBelow, sbox}
 use Rattle.aes.specs.Blocks.{EncryptsToBlocks}
 use Rattle.aes.specs.Cipher.{cipher, round_key, rounds, shift_rows}
 use Rattle.aes.specs.KeyExpansion.{aes256, round_keys_of}
@@ -25,14 +23,14 @@ state_octets : (q : Planes) → Octets (state q 0)
 unfolding state byte
 state_octets q =
     Octets-map (λ k. byte q 0 (k % 4) (k / 4)) (range_with_len 0 16)
-    (λ k. number_lt (bit (k % 4) (8 * (k / 4) + 0)) (bit_lt (k % 4) (8 * (k / 4) + 0)) (planes q))
+    (λ k. number_lt (bit (k % 4) (8 * (k / 4) + 0)) (λ p. mod-lt (get_or p (k % 4) 0 / 2 ^ (8 * (k / 4) + 0)) (lit< tt)) (planes q))
 
 one_of_all : (P : List ℕ → Type 0) → ((k : RoundKey) → P (key_of k)) → (ks : List RoundKey) (i : ℕ) → i < length ks → P (get_or (map key_of ks) i [])
 one_of_all P h [] i l = absurd (omega arith)
 one_of_all P h (k ∷ ks) zero l = h k
 one_of_all P h (k ∷ ks) (suc i) l = one_of_all P h ks i (omega arith)
 
-module _ (key : List ℕ) (keys : List RoundKey) (expanded : map key_of keys ≡ round_keys_of key) where
+module _ (below : SboxBelow) (key : List ℕ) (keys : List RoundKey) (expanded : map key_of keys ≡ round_keys_of key) where
   last_key : (P : List ℕ → Type 0) → ((k : RoundKey) → P (key_of k)) → P (round_key (round_keys_of key) 14)
   unfolding round_keys_of
   last_key P h =
@@ -51,7 +49,7 @@ module _ (key : List ℕ) (keys : List RoundKey) (expanded : map key_of keys ≡
       let s = map sbox (rounds (round_keys_of key) 13 block) in
       Octets-sums (shift_rows s) (round_key (round_keys_of key) 14)
       (Octets-map (λ k. get_or s (k % 4 + 4 * ((k / 4 + k % 4) % 4)) 0) (range_with_len 0 16)
-      (λ k. Octets-map sbox (rounds (round_keys_of key) 13 block) sbox_lt (k % 4 + 4 * ((k / 4 + k % 4) % 4))))
+      (λ k. Octets-map sbox (rounds (round_keys_of key) 13 block) below (k % 4 + 4 * ((k / 4 + k % 4) % 4))))
       (last_key Octets (λ k. state_octets k.planes))
 
   pub encrypts_to_blocks : EncryptsToBlocks key

@@ -12,8 +12,7 @@ use Rattle.planes.proofs.BitLaws.{same_below}
 use Rattle.planes.proofs.PlaneLaws.{map_same, sums_of_maps, number, states_from}
 use Rattle.units.specs.Sums.{◌⊕◌, sums}
 use Rattle.units.proofs.SumLaws.{terms}
-use Rattle.byte_field.specs.ByteField.{mul, xtime}
-use Rattle.byte_field.proofs.ByteFieldLaws.{mul_one, mul_three, mul_two, xtime_sum}
+use Rattle.byte_field.specs.ByteField.{ByteFieldStands, mul, xtime}
 use Rattle.aes.specs.Cipher.{at, mix_columns, shift_rows, state_of}
 use Rattle.aes.specs.Steps.{turned, Moved, next_column, row_below, same_column, same_row}
 
@@ -109,16 +108,23 @@ whole_state s l = fill_by_all (λ k. at s (k % 4) (k / 4)) s 16 0 l (λ k h. ap 
 sum_of_five : (a b c d x y : ℕ) → (b ⊕ (c ⊕ d)) ⊕ (x ⊕ y) ≡ x ⊕ (b ⊕ y) ⊕ c ⊕ d
 sum_of_five a b c d x y = simp terms
 
-one_byte : (a b c d : ℕ) → (b ⊕ (c ⊕ d)) ⊕ xtime (a ⊕ b) ≡ mul 2 a ⊕ mul 3 b ⊕ mul 1 c ⊕ mul 1 d
-one_byte a b c d = rw (mul_two a, mul_three b, mul_one c, mul_one d, xtime_sum a b) (sum_of_five a b c d (xtime a) (xtime b))
+-- by the laws of the bytes: 3 is 1 ⊕ 2, and 2 is x
+one_byte : ByteFieldStands → (a b c d : ℕ) → (b ⊕ (c ⊕ d)) ⊕ xtime (a ⊕ b) ≡ mul 2 a ⊕ mul 3 b ⊕ mul 1 c ⊕ mul 1 d
+one_byte bytes a b c d =
+    let two : (x : ℕ) → mul 2 x ≡ xtime x = λ x. sym (bytes.times_x x) in
+    let three : (x : ℕ) → mul 3 x ≡ x ⊕ xtime x = λ x. bytes.additive_left 1 2 x ∙ ap₂ (λ (m n : ℕ). m ⊕ n) (bytes.one_is x) (two x) in
+    let sum : xtime (a ⊕ b) ≡ xtime a ⊕ xtime b =
+    bytes.times_x (a ⊕ b) ∙ bytes.additive_right 2 a b ∙ ap₂ (λ (m n : ℕ). m ⊕ n) (two a) (two b)
+    in
+    rw (two a, three b, bytes.one_is c, bytes.one_is d, sum) (sum_of_five a b c d (xtime a) (xtime b))
 
 -- MixColumns as it is computed
 abbrev mixed : List ℕ → List ℕ
 mixed s = let pair = sums s (turned 1 s) in sums (sums (turned 1 s) (turned 2 pair)) (map xtime pair)
 
-mixed_is : (s : List ℕ) → length s ≡ 16 → mixed s ≡ mix_columns s
+mixed_is : ByteFieldStands → (s : List ℕ) → length s ≡ 16 → mixed s ≡ mix_columns s
 unfolding turned mix_columns
-mixed_is s l =
+mixed_is bytes s l =
     let below = λ (n r c : ℕ). at s ((r + n) % 4) c in
     let P = λ (r c : ℕ). at s r c ⊕ below 1 r c in
     let pair : sums s (turned 1 s) ≡ state_of P = ap (λ (x : List ℕ). sums x (turned 1 s)) (whole_state s l) ∙ sums_state_of (at s) (below 1) in
@@ -130,7 +136,7 @@ mixed_is s l =
     ∙ state_of_same (λ r c. (below 1 r c ⊕ P ((r + 2) % 4) c) ⊕ xtime (P r c)) (λ r c. mul 2 (at s r c) ⊕ mul 3 (below 1 r c) ⊕ mul 1 (below 2 r c) ⊕ mul 1 (below 3 r c))
     (λ r c lr lc.
     ap (λ (m : ℕ). (below 1 r c ⊕ (below 2 r c ⊕ at s m c)) ⊕ xtime (P r c)) (let e : ((r + 2) % 4 + 1) % 4 ≡ (r + 3) % 4 = omega arith in e)
-    ∙ one_byte (at s r c) (below 1 r c) (below 2 r c) (below 3 r c))
+    ∙ one_byte bytes (at s r c) (below 1 r c) (below 2 r c) (below 3 r c))
 
 -- what holds of every state of sixteen bytes holds of each of the eight
 states_each : (f g : List ℕ → List ℕ) (q : Planes) → ((s : List ℕ) → length s ≡ 16 → f s ≡ g s) → map f (states q) ≡ map g (states q)
@@ -141,7 +147,8 @@ states_each f g q h =
     ∙ sym (map-map g (state q) (range_with_len 0 8))
 
 pub columns_mixed :
-    (q next pairs far sum twice r : Planes)
+    ByteFieldStands
+    → (q next pairs far sum twice r : Planes)
     → states next ≡ map (turned 1) (states q)
     → states pairs ≡ zip2 sums (states q) (states next)
     → states far ≡ map (turned 2) (states pairs)
@@ -149,11 +156,11 @@ pub columns_mixed :
     → states twice ≡ map (map xtime) (states pairs)
     → states r ≡ zip2 sums (states sum) (states twice)
     → states r ≡ map mix_columns (states q)
-columns_mixed q next pairs far sum twice r a b c d e f =
+columns_mixed bytes q next pairs far sum twice r a b c d e f =
     let ss = states q in
     let pair : List ℕ → List ℕ = λ s. sums s (turned 1 s) in
     let b' : states pairs ≡ map pair ss = b ∙ zip2_of_maps sums (λ s. s) (turned 1) ss (sym (map-id ss)) a in
     let c' : states far ≡ map (λ s. turned 2 (pair s)) ss = c ∙ ap (map (turned 2)) b' ∙ map-map (turned 2) pair ss in
     let d' : states sum ≡ map (λ s. sums (turned 1 s) (turned 2 (pair s))) ss = d ∙ zip2_of_maps sums (turned 1) (λ s. turned 2 (pair s)) ss a c' in
     let e' : states twice ≡ map (λ s. map xtime (pair s)) ss = e ∙ ap (map (map xtime)) b' ∙ map-map (map xtime) pair ss in
-    f ∙ zip2_of_maps sums (λ s. sums (turned 1 s) (turned 2 (pair s))) (λ s. map xtime (pair s)) ss d' e' ∙ states_each mixed mix_columns q mixed_is
+    f ∙ zip2_of_maps sums (λ s. sums (turned 1 s) (turned 2 (pair s))) (λ s. map xtime (pair s)) ss d' e' ∙ states_each mixed mix_columns q (mixed_is bytes)

@@ -39,6 +39,7 @@ impl Aes256 {
         ensures example { ExampleStands }
         ensures blocks { EncryptsToBlocks key.now }
     {
+        byte_field::laws();
         let words = key_expansion(key);
         let mut round_keys = [RoundKey::new([0; 16]); ROUND_KEYS];
         for round in 0..ROUND_KEYS {

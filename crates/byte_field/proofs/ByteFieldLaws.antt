@@ -6,7 +6,7 @@ use Rattle.std.proofs.lemmas.Nat.{xor_lt, xor_shr, shl-shr, shr-shr}
 use Rattle.std.proofs.lemmas.Bool.{agree_below_at, ltb-true}
 use Rattle.std.specs.Int.Bits.{xor_zero_r}
 use Rattle.units.specs.Sums.{◌⊕◌}
-use Rattle.units.proofs.SumLaws.{low_either, shl-xor, terms, xor_cancel, xor_four, xor_low}
+use Rattle.units.proofs.SumLaws.{low_either, low-xor, shl-xor, terms, xor_cancel, xor_four, xor_low}
 use Rattle.polynomials.specs.Polynomials.{digitwise, product}
 use Rattle.polynomials.proofs.ProductLaws.{digitwise_step, product_bit, product_lt, product-pow, product-shl_l, product_step, product-xor_l, product-xor_r, product-zero_l}
 use Rattle.planes.proofs.BitLaws.{same_below}
@@ -14,7 +14,7 @@ use Rattle.byte_field.specs.ByteField.{ByteFieldStands, Congruent, Reduced, inve
 
 -- ---- times x
 
-pub xtime_sum : (a b : ℕ) → xtime (a ⊕ b) ≡ xtime a ⊕ xtime b
+xtime_sum : (a b : ℕ) → xtime (a ⊕ b) ≡ xtime a ⊕ xtime b
 unfolding xtime
 xtime_sum a b =
     rw (shl-xor a b 1, xor_shr a b 7, xor_low (a / 2 ^ 7) (b / 2 ^ 7) modulus)
@@ -46,14 +46,29 @@ mul_zero : (b : ℕ) → mul 0 b ≡ 0
 unfolding mul digitwise
 mul_zero b = refl
 
-pub mul_one : (a : ℕ) → mul 1 a ≡ a
+mul_one : (a : ℕ) → mul 1 a ≡ a
 mul_one a = rw (mul_step 1 a, one-mul, mul_zero, xtime_zero, xor_zero_r)
 
-pub mul_two : (a : ℕ) → mul 2 a ≡ xtime a
+mul_two : (a : ℕ) → mul 2 a ≡ xtime a
 mul_two a = rw (mul_step 2 a, zero-mul, mul_one)
 
-pub mul_three : (a : ℕ) → mul 3 a ≡ a ⊕ xtime a
-mul_three a = rw (mul_step 3 a, one-mul, mul_one)
+mul_sum_l : (a b c : ℕ) → mul (a ⊕ b) c ≡ mul a c ⊕ mul b c
+mul_sum_l a b c =
+    bin_ind (λ (n : ℕ). (b : ℕ) → mul (n ⊕ b) c ≡ mul n c ⊕ mul b c)
+    (λ b. rw mul_zero)
+    (λ n ih b.
+    rw (mul_step (n ⊕ b) c, mul_step n c, mul_step b c, xor_low, xor_shr n b 1, ih (b / 2), xtime_sum (mul (n / 2) c) (mul (b / 2) c))
+    (xor_four (n % 2 * c) (b % 2 * c) (xtime (mul (n / 2) c)) (xtime (mul (b / 2) c))))
+    a b
+
+mul_sum_r : (a b c : ℕ) → mul a (b ⊕ c) ≡ mul a b ⊕ mul a c
+mul_sum_r a b c =
+    bin_ind (λ (n : ℕ). mul n (b ⊕ c) ≡ mul n b ⊕ mul n c)
+    (simp mul_zero)
+    (λ n ih.
+    rw (mul_step n (b ⊕ c), mul_step n b, mul_step n c, low-xor, ih, xtime_sum (mul (n / 2) b) (mul (n / 2) c))
+    (xor_four (n % 2 * b) (n % 2 * c) (xtime (mul (n / 2) b)) (xtime (mul (n / 2) c))))
+    a
 
 -- what is left of the product of the polynomials when multiples of the modulus are taken away
 mul-congruent : (a b : ℕ) → Congruent (product a b) (mul a b)
@@ -147,6 +162,9 @@ pub byte_field_stands : ByteFieldStands
 byte_field_stands =
     record {
       product_is = λ a b ha hb. mul_reduced a b hb;
+      additive_left = mul_sum_l;
+      additive_right = mul_sum_r;
+      one_is = mul_one;
       times_x = λ b. sym (mul_two b);
       inverse_is = inverse_is;
       inverse_zero = inverse_zero;

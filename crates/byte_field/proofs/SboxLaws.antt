@@ -5,7 +5,9 @@ use Rattle.std.specs.List.{range_with_len}
 use Rattle.units.specs.Sums.{◌⊕◌}
 use Rattle.polynomials.specs.Polynomials.{digitwise}
 use Rattle.byte_field.specs.ByteField.{inverse, mul, squares, xtime}
-use Rattle.byte_field.specs.Sbox.{TableStands, affine_bit, sbox, table}
+use Rattle.byte_field.specs.Laws.{ByteFieldLaws}
+use Rattle.byte_field.specs.Sbox.{SboxBelow, TableStands, affine_bit, sbox, table}
+use Rattle.byte_field.proofs.ByteFieldLaws.{byte_field_stands}
 use Rattle.byte_field.proofs.NumberLaws.{number_lt}
 
 pub table_stands : TableStands
@@ -21,6 +23,9 @@ affine_bit_lt b i = more _ _ (more _ _ (more _ _ (more _ _ (more _ _ (low (b / 2
     more : (x n : ℕ) → x < 2 → x ⊕ n % 2 < 2
     more x n h = xor_lt 1 x (n % 2) h (low n)
 
-pub sbox_lt : (b : ℕ) → sbox b < 256
+sbox_lt : SboxBelow
 unfolding sbox
 sbox_lt b = number_lt (affine_bit (inverse b)) (affine_bit_lt (inverse b)) (range_with_len 0 8)
+
+pub byte_field_laws : ByteFieldLaws
+byte_field_laws = record { bytes = byte_field_stands; table = table_stands; below = sbox_lt }

@@ -36,9 +36,12 @@ squares (suc n) b = let s = mul b b in mul s (squares n s)
 unfoldable pub inverse : ℕ → ℕ
 inverse b = squares 7 b
 
--- the laws of the bytes: the product is that of the polynomials, reduced by the modulus, 2 is x, and a byte times its inverse is 1
+-- the laws of the bytes: the product is the polynomials' one, reduced, and additive; 1 is its one, 2 is x, a byte times its inverse is 1
 pub record ByteFieldStands : Type 0 where
   pub product_is : (a b : ℕ) → a < 256 → b < 256 → Reduced a b (mul a b)
+  pub additive_left : (a b c : ℕ) → mul (a ⊕ b) c ≡ mul a c ⊕ mul b c
+  pub additive_right : (a b c : ℕ) → mul a (b ⊕ c) ≡ mul a b ⊕ mul a c
+  pub one_is : (b : ℕ) → mul 1 b ≡ b
   pub times_x : (b : ℕ) → xtime b ≡ mul 2 b
   pub inverse_is : (b : ℕ) → 0 < b → b < 256 → mul b (inverse b) ≡ 1
   pub inverse_zero : inverse 0 ≡ 0

@@ -1,2 +1,3 @@
 pub mod ByteField
 pub mod Sbox
+pub mod Laws

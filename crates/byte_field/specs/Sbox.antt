@@ -1,5 +1,5 @@
 -- The S-box of FIPS 197, section 5.1.1: a byte's inverse, and then the affine map.
-use Rattle.std.specs.Prelude.{◌≡◌, ℕ, ◌+◌, ◌*◌, ◌/◌, ◌%◌, ◌^◌, List, [], ◌∷◌, map}
+use Rattle.std.specs.Prelude.{◌≡◌, ℕ, ◌+◌, ◌*◌, ◌/◌, ◌%◌, ◌^◌, ◌<◌, List, [], ◌∷◌, map}
 use Rattle.std.specs.List.{range_with_len}
 use Rattle.std.specs.Simd.Lanes.{number_l}
 use Rattle.units.specs.Sums.{◌⊕◌}
@@ -48,3 +48,7 @@ table =
 -- what is printed is what is defined
 abbrev pub TableStands : Type 0
 TableStands = map (λ x. map (λ y. sbox (16 * x + y)) (range_with_len 0 16)) (range_with_len 0 16) ≡ table
+
+-- it gives bytes
+abbrev pub SboxBelow : Type 0
+SboxBelow = (b : ℕ) → sbox b < 256

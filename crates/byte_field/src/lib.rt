@@ -4,8 +4,16 @@
 //! neither has a branch or an address that depends on a byte.
 #![tactic(auto)]
 
+ghost use Rattle.byte_field.specs.Laws.{ByteFieldLaws};
+
 pub mod doubling;
 pub mod sbox;
 
 pub use doubling::doubled;
 pub use sbox::sub_bytes;
+
+/// What the layers above rest on. It does nothing: a caller's proof has the laws from its contract.
+#[tactic(auto, using(crate::proofs::SboxLaws::byte_field_laws))]
+pub fn laws()
+    ensures { ByteFieldLaws }
+{}

@@ -25,5 +25,5 @@ invariant_of-result c =
 pub returns-clause-blocks : goal.returns-clause-blocks
 returns-clause-blocks c =
     let l = c.loop-round in
-    encrypts_to_blocks c.args.key.now l.round_keys
+    encrypts_to_blocks c.laws.ensures.below c.args.key.now l.round_keys
     (all_keys c.args.key.now c.key_expansion-words.result l.round_keys l.round l.invariant.0 (search rules) c.key_expansion-words.ensures l.invariant.1)
