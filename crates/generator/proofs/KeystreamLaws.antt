@@ -3,16 +3,16 @@ use Rattle.std.proofs.Common.{◌≡◌, ℕ, zero, suc, ◌+◌, ◌<◌, ◌�
 use Rattle.std.proofs.lemmas.Bool.Decides.{nat_tests}
 use Rattle.std.proofs.lemmas.List.{drop_all}
 use Rattle.field.specs.declared.blocks.Block.{Block}
-use Rattle.generator.specs.Generators.{Answers, Meaning, Same, answered, block_of}
+use Rattle.generator.specs.Generators.{Answers, IsNonce, Meaning, Same, answered, block_of}
 use Rattle.generator.specs.Keystreams.{blocks_from}
 
 pub Same-refl : (a : Meaning) → Same a a
-Same-refl a = record { reach = λ n. refl; block = λ n i h. refl }
+Same-refl a = record { reach = λ n is. refl; block = λ n i is h. refl }
 
 pub Same-trans : (a b c : Meaning) → Same a b → Same b c → Same a c
 Same-trans a b c s t = record {
-  reach = λ n. t.reach n ∙ s.reach n;
-  block = λ n i h. let e = s.reach n in t.block n i (omega arith) ∙ s.block n i h;
+  reach = λ n is. t.reach n is ∙ s.reach n is;
+  block = λ n i is h. let e = s.reach n is in t.block n i is (omega arith) ∙ s.block n i is h;
 }
 
 -- every meaning answers below the reach alone
@@ -20,10 +20,10 @@ pub answers : (m : Meaning) → Answers m
 answers m = record { below = λ n i h. grind (arith, nat_tests); beyond = λ n i h. grind (arith, nat_tests) }
 
 -- two that are the same answer the same
-pub answered_same : (a b : Meaning) → Same a b → (n : List ℕ) (i : ℕ) → answered b n i ≡ answered a n i
-answered_same a b s n i =
-    let e = s.reach n in
-    let f : i < a.reach n → b.block n i ≡ a.block n i = s.block n i in
+pub answered_same : (a b : Meaning) → Same a b → (n : List ℕ) (i : ℕ) → IsNonce n → answered b n i ≡ answered a n i
+answered_same a b s n i is =
+    let e = s.reach n is in
+    let f : i < a.reach n → b.block n i ≡ a.block n i = s.block n i is in
     grind (arith, nat_tests, f)
 
 -- so many blocks are in place, and the rest is as it was
@@ -43,9 +43,9 @@ set_next m n i (suc k) (b ∷ old) h =
     ∙ ap (λ (l : List Block). block_of (m.block n i) ∷ l) (set_next m n (i + 1) k old (omega arith))
 
 -- the block that the generator answered is put in place
-pub filled_more : (a b : Meaning) (n : List ℕ) (i k : ℕ) (old out : List Block) (x : Block) → Same a b → Filled a n i k old out → k < length old → answered b n (i + k) ≡ Ok x → Filled a n i (k + 1) old (set out k x)
-filled_more a b n i k old out x s f h e =
-    let same = answered_same a b s n (i + k) in
+pub filled_more : (a b : Meaning) (n : List ℕ) (i k : ℕ) (old out : List Block) (x : Block) → Same a b → IsNonce n → Filled a n i k old out → k < length old → answered b n (i + k) ≡ Ok x → Filled a n i (k + 1) old (set out k x)
+filled_more a b n i k old out x s is f h e =
+    let same = answered_same a b s n (i + k) is in
     let block : x ≡ block_of (a.block n (i + k)) = grind (arith, nat_tests) in
     record { is = rw (f.is, block, add-one) (set_next a n i k old h) }
 

@@ -13,16 +13,21 @@ pub record Meaning : Type 0 where
   pub reach : List ℕ → ℕ
   pub block : List ℕ → ℕ → List ℕ
 
--- the reach is at most 2^32, and below it each block has sixteen bytes
-pub record Sound (m : Meaning) : Type 0 where
-  pub near : (n : List ℕ) → m.reach n ≤ 2 ^ 32
-  pub sixteen : (n : List ℕ) (i : ℕ) → i < m.reach n → length (m.block n i) ≡ 16
-  pub octets : (n : List ℕ) (i : ℕ) → i < m.reach n → Octets (m.block n i)
+-- a nonce is twelve bytes
+pub record IsNonce (n : List ℕ) : Type 0 where
+  pub twelve : length n ≡ 12
+  pub octets : Octets n
 
--- the two have the same reach under each nonce, and the same blocks below it
+-- under each nonce the reach is at most 2^32, and below it each block has sixteen bytes
+pub record Sound (m : Meaning) : Type 0 where
+  pub near : (n : List ℕ) → IsNonce n → m.reach n ≤ 2 ^ 32
+  pub sixteen : (n : List ℕ) (i : ℕ) → IsNonce n → i < m.reach n → length (m.block n i) ≡ 16
+  pub octets : (n : List ℕ) (i : ℕ) → IsNonce n → i < m.reach n → Octets (m.block n i)
+
+-- the two have the same reach under each nonce, and the same blocks below it. What they say of other lists means nothing
 pub record Same (a b : Meaning) : Type 0 where
-  pub reach : (n : List ℕ) → b.reach n ≡ a.reach n
-  pub block : (n : List ℕ) (i : ℕ) → i < a.reach n → b.block n i ≡ a.block n i
+  pub reach : (n : List ℕ) → IsNonce n → b.reach n ≡ a.reach n
+  pub block : (n : List ℕ) (i : ℕ) → IsNonce n → i < a.reach n → b.block n i ≡ a.block n i
 
 -- 13: the generator's reach is too short
 abbrev pub short : ℕ → Refusal

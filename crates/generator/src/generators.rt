@@ -1,13 +1,24 @@
 //! What a generator of keystream is. Under each nonce it has so many blocks, its reach, and gives each by its index.
 ghost use Rattle.std.specs.Prelude.{◌≡◌};
-ghost use Rattle.generator.specs.Generators.{Meaning, Same, Sound, answered, short};
+ghost use Rattle.generator.specs.Generators.{IsNonce, Meaning, Same, Sound, answered, short};
 
 use field::Block;
-use units::{Layer, Reason, Refusal};
+use units::{Layer, Reason, Refusal, octets};
 
 /// A nonce. Under the same nonce a generator always gives the same blocks.
 #[derive(Clone, Copy, Debug, PartialEq, Eq)]
 pub struct Nonce(pub [u8; 12]);
+
+impl Nonce {
+    /// For a proof alone: a nonce is twelve bytes, which no type tells of one that is behind a reference.
+    pub(crate) fn twelve_bytes(&self)
+        ensures { IsNonce self.now.0 }
+    {
+        let Nonce(bytes) = *self;
+        prove!(bytes.len() == 12);
+        octets(&bytes);
+    }
+}
 
 /// A generator of keystream. A call may change what an implementation remembers, and never what the generator means.
 pub trait Generator {

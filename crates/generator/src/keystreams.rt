@@ -20,6 +20,7 @@ pub fn keystream<G: Generator>(
     ensures same { Same (G.meaning generator.old) (G.meaning generator.new) }
     ensures answers { Answers (G.meaning generator.old) }
 {
+    nonce.twelve_bytes();
     let reach = generator.reach(nonce);
     let end = first.checked_add(out.len() as u64);
     if !out.is_empty() && end.is_none_or(|end| end > reach) {

@@ -35,6 +35,7 @@ impl<A: Generator, B: Generator> Generator for Pair<A, B> {
     }
 
     fn block(&mut self, nonce: &Nonce, index: u64) -> Result<Block, Refusal> {
+        nonce.twelve_bytes();
         let left = self.left.block(nonce, index);
         let right = self.right.block(nonce, index);
         let (Ok(left), Ok(right)) = (left, right) else {

@@ -9,5 +9,5 @@ loop-k-preserved g c =
     let inv = c.loop-k.invariant in
     record {
       same = Same-trans a b (g.G.Generator.meaning c.block.new.self) inv.same c.block.ensures.same;
-      filled = filled_more a b c.args.nonce.now.0 c.args.first c.loop-k.k c.args.out.now c.loop-k.out c.in_ok-block.field-0 inv.same inv.filled (omega arith) (sym c.block.ensures.value ∙ c.in_ok-block.was);
+      filled = filled_more a b c.args.nonce.now.0 c.args.first c.loop-k.k c.args.out.now c.loop-k.out c.in_ok-block.field-0 inv.same c.twelve_bytes.ensures inv.filled (omega arith) (sym c.block.ensures.value ∙ c.in_ok-block.was);
     }
