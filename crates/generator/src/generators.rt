@@ -11,7 +11,7 @@ pub struct Nonce(pub [u8; 12]);
 
 impl Nonce {
     /// For a proof alone: a nonce is twelve bytes, which no type tells of one that is behind a reference.
-    pub(crate) fn twelve_bytes(&self)
+    pub fn twelve_bytes(&self)
         ensures { IsNonce self.now.0 }
     {
         let Nonce(bytes) = *self;

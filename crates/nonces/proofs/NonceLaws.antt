@@ -1,8 +1,12 @@
 -- Nonces.
-use Rattle.std.proofs.Common.{◌≡◌, ℕ, ◌+◌, ◌*◌, ◌/◌, ◌%◌, ◌^◌, ◌<◌, Bool, true, false, List, ◌++◌, Some, None, Option, get_or, take, drop, sym, refl, ap, ◌∙◌, arith}
-use Rattle.nonces.specs.Nonces.{NoncesDiffer, bit, extra_bytes, nonce}
+use Rattle.std.proofs.Common.{◌≡◌, ℕ, zero, suc, ◌+◌, ◌*◌, ◌/◌, ◌%◌, ◌^◌, ◌<◌, ◌≤◌, Bool, true, false, List, [], ◌∷◌, ◌++◌, length, Some, None, Option, get_or, take, drop, sym, refl, ap, ◌∙◌, arith, length-append}
+use Rattle.std.proofs.lemmas.Bool.Decides.{nat_tests}
+use Rattle.generator.specs.Generators.{IsNonce}
+use Rattle.nonces.specs.Nonces.{NoncesDiffer, NoncesStand, NoncesTwelve, bit, extra_bytes, nonce, nonce_refusal}
 use Rattle.nonces.specs.declared.ExtraIv.{ExtraIv}
-use Rattle.units.specs.Strings.{four}
+use Rattle.nonces.specs.declared.Parameters.{Parameters}
+use Rattle.units.specs.Strings.{Octets, four}
+use Rattle.units.proofs.StringLaws.{Octets-append, Octets-four}
 
 -- flags with the same bit are the same
 bit_tells : (b c : Bool) → bit b ≡ bit c → b ≡ c
@@ -57,3 +61,37 @@ nonces_differ t u c d i j p q f g e =
           four_tells p.count q.count f.count g.count
           (sym (drop_extra p.extra_iv (four p.count)) ∙ ap (drop 6) rest ∙ drop_extra q.extra_iv (four q.count));
     }
+
+length_extra : (x : Option ExtraIv) → length (extra_bytes x) ≡ 6
+length_extra (Some v) = refl
+length_extra None = refl
+
+-- two bytes, six, and the four of a number
+twelve_bytes : (a b : ℕ) (x : Option ExtraIv) (c : ℕ) → a < 256 → b < 256 → Octets (extra_bytes x)
+    → IsNonce (a ∷ b ∷ (extra_bytes x ++ four c))
+unfolding four
+twelve_bytes a b x c h k o =
+    record {
+      twelve = omega (arith, length-append (extra_bytes x) (four c), length_extra x);
+      octets = octets;
+    }
+  where
+    octets : Octets (a ∷ b ∷ (extra_bytes x ++ four c))
+    octets zero = h
+    octets (suc zero) = k
+    octets (suc (suc i)) = Octets-append (extra_bytes x) (four c) o (Octets-four c) i
+
+nonces_twelve : NoncesTwelve
+unfolding nonce
+nonces_twelve None combined instance p accepted o =
+    let line : (p.bearer ≤ 31) × (p.direction ≤ 1) = (grind (arith, nat_tests, accepted), grind (arith, nat_tests, accepted)) in
+    twelve_bytes (0 * 8 + bit combined * 4 + 0 * 2 + bit instance) (p.bearer * 2 + p.direction) p.extra_iv p.count
+    (omega (arith, bit_small combined, bit_small instance)) (omega (arith, line.0, line.1)) o
+nonces_twelve (Some t) combined instance p accepted o =
+    let line : (p.bearer ≤ 31) × (p.direction ≤ 1) = (grind (arith, nat_tests, accepted), grind (arith, nat_tests, accepted)) in
+    let size : t ≤ 16 = grind (arith, nat_tests, accepted) in
+    twelve_bytes (t * 8 + bit combined * 4 + 0 * 2 + bit instance) (p.bearer * 2 + p.direction) p.extra_iv p.count
+    (omega (arith, size, bit_small combined, bit_small instance)) (omega (arith, line.0, line.1)) o
+
+pub nonces_stand : NoncesStand
+nonces_stand = record { differ = nonces_differ; twelve = nonces_twelve }

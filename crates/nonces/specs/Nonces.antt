@@ -1,10 +1,11 @@
 -- The nonce of a message.
 use Rattle.std.specs.Prelude.{◌≡◌, ℕ, ◌+◌, ◌*◌, ◌^◌, ◌<◌, ◌≤◌, Bool, cond, ◌||◌, List, [], ◌∷◌, ◌++◌, Some, None, Option, Result, nat_lt, unwrap_or}
 use Rattle.units.specs.Refusals.{◌⊳◌, refused, unless}
-use Rattle.units.specs.Strings.{four}
+use Rattle.units.specs.Strings.{Octets, four}
 use Rattle.units.specs.declared.refusals.Layer.TheVariants.{Cover}
 use Rattle.units.specs.declared.refusals.Reason.TheVariants.{BearerDirection, TagSize}
 use Rattle.units.specs.declared.refusals.Refusal.{Refusal}
+use Rattle.generator.specs.Generators.{IsNonce}
 use Rattle.generator.specs.declared.generators.Nonce.{Nonce}
 use Rattle.nonces.specs.declared.ExtraIv.{ExtraIv}
 use Rattle.nonces.specs.declared.Parameters.{Parameters}
@@ -65,3 +66,16 @@ NoncesDiffer =
     → Fit u q
     → nonce t c i p ≡ nonce u d j q
     → Alike t u c d i j p q
+
+-- a nonce that is given is twelve bytes, where EXTRA_IV is bytes
+abbrev pub NoncesTwelve : Type 0
+NoncesTwelve =
+    (t : Option ℕ) (combined instance : Bool) (p : Parameters)
+    → nonce_refusal t p ≡ None
+    → Octets (extra_bytes p.extra_iv)
+    → IsNonce (nonce (unwrap_or t 0) combined instance p)
+
+-- what holds of the nonces of messages
+pub record NoncesStand : Type 0 where
+  pub differ : NoncesDiffer
+  pub twelve : NoncesTwelve

@@ -5,8 +5,9 @@
 //! bit, is 0.
 #![tactic(auto)]
 
-ghost use Rattle.std.specs.Prelude.{◌≡◌};
-ghost use Rattle.nonces.specs.Nonces.{NoncesDiffer, extra_bytes, given};
+ghost use Rattle.std.specs.Prelude.{◌≡◌, IfOk};
+ghost use Rattle.generator.specs.Generators.{IsNonce};
+ghost use Rattle.nonces.specs.Nonces.{NoncesDiffer, NoncesStand, extra_bytes, given};
 ghost use Rattle.units.specs.Refusals.{refusal};
 ghost use Rattle.units.specs.declared.refusals.Layer.TheVariants.{Cover};
 
@@ -57,6 +58,7 @@ impl Parameters {
         instance: bool,
     ) -> Result<Nonce, Refusal>
         ensures value { result ≡ given tag_size combined instance self.now }
+        ensures twelve { IfOk result (λ nonce. IsNonce nonce.0) }
         ensures differ { NoncesDiffer }
     {
         if self.bearer > HIGHEST_BEARER || self.direction > HIGHEST_DIRECTION {
@@ -68,7 +70,7 @@ impl Parameters {
         let size = tag_size.unwrap_or(0);
         let [e0, e1, e2, e3, e4, e5] = extra_bytes(self.extra_iv);
         let [c0, c1, c2, c3] = self.count.to_be_bytes();
-        Ok(Nonce([
+        let nonce = Nonce([
             size * 8 + u8::from(combined) * 4 + u8::from(instance),
             self.bearer * 2 + self.direction,
             e0,
@@ -81,7 +83,9 @@ impl Parameters {
             c1,
             c2,
             c3,
-        ]))
+        ]);
+        nonce.twelve_bytes();
+        Ok(nonce)
     }
 }
 
@@ -114,3 +118,9 @@ pub fn refuse(reason: Reason) -> Refusal
         place: 0,
     }
 }
+
+/// What the layers above rest on. It does nothing: a caller's proof has the laws from its contract.
+#[tactic(auto, using(crate::proofs::NonceLaws::nonces_stand))]
+pub fn laws()
+    ensures { NoncesStand }
+{}
