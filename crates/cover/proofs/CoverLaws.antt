@@ -1,91 +1,71 @@
--- What holds of NEA5 and NCA5.
-use Rattle.std.proofs.Common.{◌≡◌, ◌↔◌, ℕ, min, ◌≤◌, true, List, length, take, None, Ok, sym, refl, ap, ◌∙◌, arith, length-take}
+-- What holds of NEA5, NIA5 and NCA5, by what the field and the nonces promise.
+use Rattle.std.proofs.Common.{◌≡◌, ℕ, ◌≤◌, true, false, List, length, take, None, Some, Ok, refl, ap, arith}
 use Rattle.std.proofs.lemmas.Bool.Decides.{nat_tests}
-use Rattle.std.specs.Simd.Lanes.{digits_l}
 use Rattle.units.specs.Lengths.{begun, filled}
-use Rattle.units.specs.Strings.{Octets, same}
+use Rattle.units.specs.Strings.{same}
 use Rattle.units.proofs.StringLaws.{same_tells}
 use Rattle.units.specs.Spare.{cleared}
-use Rattle.units.specs.Sums.{◌⊕◌, sums}
-use Rattle.units.proofs.SumLaws.{sums_unlike}
+use Rattle.units.specs.Sums.{◌⊕◌}
 use Rattle.polynomials.specs.Field.{pdot}
 use Rattle.field.specs.Blocks.{block_bytes, blocks}
 use Rattle.field.specs.Folds.{fold, folded}
+use Rattle.field.specs.Laws.{FieldLaws}
 use Rattle.field.specs.Tags.{lengths, tag, whole_tag}
-use Rattle.field.proofs.BlockLaws.{length_digits}
-use Rattle.field.proofs.TagLaws.{tag_stands}
-use Rattle.generator.specs.Generators.{Meaning}
+use Rattle.generator.specs.Generators.{IsNonce}
+use Rattle.nonces.specs.Nonces.{NoncesStand, nonce_refusal}
 use Rattle.cover.specs.Answers.{outcome}
 use Rattle.cover.specs.Keystream.{covered}
-use Rattle.cover.specs.Combined.{CoveredOpens, Nca5Stands, SpareIgnored, ciphertext_of, instance_nonce, open_refusal, stream_nonce, tag_of}
+use Rattle.cover.specs.Combined.{CoveredOpens, SpareIgnored, ciphertext_of, instance_nonce, open_refusal, stream_nonce, tag_of}
 use Rattle.cover.specs.Encryption.{Nea5Twice, nea5_nonce, nea5_refusal}
+use Rattle.cover.specs.Laws.{CoverLaws, CoveredStands, TagLong}
 use Rattle.cover.specs.Tags.{TwoTags, field_value, key_h, key_p, key_q, tag_under}
-use Rattle.cover.proofs.KeystreamLaws.{clear-covered, cleared_again, covered-cleared, covered_twice, length-covered}
+use Rattle.cover.proofs.KeystreamLaws.{Octets-covered, clear-covered, cleared_again, covered-cleared, covered_other, covered_twice, length-covered}
+use Rattle.cover.proofs.SameLaws.{same_calls, same_stands}
 
--- what NEA5 wrote is accepted again, and gives the input
-pub nea5_twice : Nea5Twice
-nea5_twice m work p bits input output sound accepted =
-    let n = nea5_nonce p in
-    let reaches : begun bits ≤ m.reach n = grind (arith, nat_tests, accepted) in
-    let long : length input ≡ filled bits = grind (arith, nat_tests, accepted) in
-    let long_again = length-covered m sound n bits input reaches long in
-    let again : nea5_refusal m work p bits (covered m n bits input) output ≡ None = grind (arith, nat_tests, accepted, long_again) in
-    rw (accepted, again) (ap (outcome (Ok tt)) (covered_twice m sound n bits input reaches long))
+-- a call's two nonces are nonces
+module _ (nonces : NoncesStand) where
+  -- what NEA5 wrote is accepted again, and gives the input
+  nea5_twice : Nea5Twice
+  nea5_twice m work p bits input output sound extra accepted =
+      let n = nea5_nonce p in
+      let line : nonce_refusal None p ≡ None = grind (arith, nat_tests, accepted) in
+      let is : IsNonce n = nonces.twelve None false false p line extra in
+      let reaches : begun bits ≤ m.reach n = grind (arith, nat_tests, accepted) in
+      let long : length input ≡ filled bits = grind (arith, nat_tests, accepted) in
+      let long_again = length-covered m sound n is bits input reaches long in
+      let again : nea5_refusal m work p bits (covered m n bits input) output ≡ None = grind (arith, nat_tests, accepted, long_again) in
+      rw (accepted, again) (ap (outcome (Ok tt)) (covered_twice m sound n is bits input reaches long))
 
--- a tag has the length that is asked for
-pub length_tag : (m : Meaning) (n : List ℕ) (t aad_bits : ℕ) (aad : List ℕ) (bits : ℕ) (ciphertext : List ℕ)
-    → t ≤ 16
-    → length (tag_under m n t aad_bits aad bits ciphertext) ≡ t
-unfolding tag_under tag block_bytes
-length_tag m n t aad_bits aad bits ciphertext h =
-    let v = whole_tag (key_h m n) (key_q m n) (key_p m n) aad_bits aad bits ciphertext in
-    length-take t (digits_l 256 16 v) ∙ ap (min t) (length_digits 16 v) ∙ omega arith
+module _ (fields : FieldLaws) where
+  -- a tag has the length that is asked for
+  tag_long : TagLong
+  unfolding tag_under
+  tag_long m n t aad_bits aad bits ciphertext h = fields.long (key_h m n) (key_q m n) (key_p m n) t aad_bits bits aad ciphertext h
 
--- what NCA5 covered is accepted, and gives the message
-covered_opens : CoveredOpens
-covered_opens m work p t aad_bits aad bits message out tag_out buffer sound accepted room =
-    let n = stream_nonce t p in
-    let c = ciphertext_of m p t bits message in
-    let u = tag_of m p t aad_bits aad bits c in
-    let reaches : begun bits ≤ m.reach n = grind (arith, nat_tests, accepted) in
-    let long : length message ≡ filled bits = grind (arith, nat_tests, accepted) in
-    let size : t ≤ 16 = grind (arith, nat_tests, accepted) in
-    let long_again = length-covered m sound n bits message reaches long in
-    let spare = clear-covered m n bits message in
-    let long_tag = length_tag m (instance_nonce t p) t aad_bits aad bits c size in
-    let right : same u u ≡ true = (same_tells u u).1 refl in
-    let opens : open_refusal m work p t aad_bits aad bits c u buffer ≡ None =
-    grind (arith, nat_tests, accepted, room, long_again, spare, long_tag, right) in
-    rw (accepted, opens) (ap (outcome (Ok tt)) (covered_twice m sound n bits message reaches long))
+  -- what holds of two tags of the field, with the blocks under the nonce as H, Q and P
+  two_tags : TwoTags
+  unfolding tag_under field_value
+  two_tags m n t aad_bits aad aad' bits ciphertext ciphertext' =
+      fields.tags (key_h m n) (key_q m n) (key_p m n) t aad_bits bits aad aad' ciphertext ciphertext'
 
--- what holds of two tags of the field, with the blocks under the nonce as H, Q and P
-pub two_tags : TwoTags
-unfolding tag_under field_value
-two_tags m n t aad_bits aad aad' bits ciphertext ciphertext' =
-    tag_stands (key_h m n) (key_q m n) (key_p m n) t aad_bits bits aad aad' ciphertext ciphertext'
-
--- so of what is offered as the second tag: it is right exactly where its sum with the first is that field value
-pub sum_tells :
-    (m : Meaning) (n : List ℕ) (t aad_bits : ℕ) (aad aad' : List ℕ) (bits : ℕ) (ciphertext ciphertext' offered : List ℕ)
-    → t ≤ 16
-    → length offered ≡ t
-    → length aad ≡ length aad'
-    → length ciphertext ≡ length ciphertext'
-    → Octets aad
-    → Octets aad'
-    → Octets ciphertext
-    → Octets ciphertext'
-    → offered ≡ tag_under m n t aad_bits aad' bits ciphertext'
-    ↔ (sums (tag_under m n t aad_bits aad bits ciphertext) offered ≡ field_value m n t aad_bits (sums aad aad') bits (sums ciphertext ciphertext'))
-sum_tells m n t aad_bits aad aad' bits ciphertext ciphertext' offered small long a b o o' p p' =
-    let first = tag_under m n t aad_bits aad bits ciphertext in
-    let second = tag_under m n t aad_bits aad' bits ciphertext' in
-    let two = two_tags m n t aad_bits aad aad' bits ciphertext ciphertext' a b o o' p p' in
-    let l = length_tag m n t aad_bits aad bits ciphertext small in
-    let l' = length_tag m n t aad_bits aad' bits ciphertext' small in (
-      λ right. ap (sums first) right ∙ two,
-      λ sum. sums_unlike first offered second (long ∙ sym l) (l' ∙ sym l) (sum ∙ sym two),
-    )
+  -- what NCA5 covered is accepted, and gives the message
+  covered_opens : NoncesStand → CoveredOpens
+  covered_opens nonces m work p t aad_bits aad bits message out tag_out buffer sound extra accepted room =
+      let n = stream_nonce t p in
+      let c = ciphertext_of m p t bits message in
+      let u = tag_of m p t aad_bits aad bits c in
+      let given : nonce_refusal (Some t) p ≡ None = grind (arith, nat_tests, accepted) in
+      let is : IsNonce n = nonces.twelve (Some t) true false p given extra in
+      let reaches : begun bits ≤ m.reach n = grind (arith, nat_tests, accepted) in
+      let long : length message ≡ filled bits = grind (arith, nat_tests, accepted) in
+      let size : t ≤ 16 = grind (arith, nat_tests, accepted) in
+      let long_again = length-covered m sound n is bits message reaches long in
+      let spare = clear-covered m n bits message in
+      let long_tag = tag_long m (instance_nonce t p) t aad_bits aad bits c size in
+      let right : same u u ≡ true = (same_tells u u).1 refl in
+      let opens : open_refusal m work p t aad_bits aad bits c u buffer ≡ None =
+      grind (arith, nat_tests, accepted, room, long_again, spare, long_tag, right) in
+      rw (accepted, opens) (ap (outcome (Ok tt)) (covered_twice m sound n is bits message reaches long))
 
 -- spare bits of what is folded make no difference
 fold-cleared : (h v n : ℕ) (xs : List ℕ) → fold h v n (cleared n xs) ≡ fold h v n xs
@@ -104,5 +84,23 @@ spare_ignored =
           (fold-cleared h 0 aad_bits aad);
     }
 
-pub nca5_stands : Nca5Stands
-nca5_stands = record { opens = covered_opens; tags = two_tags; spare = spare_ignored }
+covered_stands : CoveredStands
+covered_stands =
+    record {
+      spare = λ m n bits text. clear-covered m n bits text;
+      long = λ m n bits text r. length-covered m r.sound n r.nonce bits text r.enough r.long;
+      octets = λ m n bits text r. Octets-covered m r.sound n r.nonce bits text r.enough r.long;
+      twice = λ m n bits text r. covered_twice m r.sound n r.nonce bits text r.enough r.long;
+      other = λ m n bits text other r. covered_other m r.sound n r.nonce bits text r.enough r.long other;
+    }
+
+pub cover_laws : FieldLaws → NoncesStand → CoverLaws
+cover_laws fields nonces =
+    record {
+      nea5 = nea5_twice nonces;
+      nca5 = record { opens = covered_opens fields nonces; tags = two_tags fields; spare = spare_ignored };
+      covered = covered_stands;
+      long = tag_long fields;
+      same = same_stands;
+      calls = same_calls nonces;
+    }

@@ -8,7 +8,7 @@ use Rattle.units.specs.Sums.{sums}
 use Rattle.units.proofs.SpareLaws.{Octets-cleared, clear_told, cleared_told, cleared-sums, length-cleared}
 use Rattle.units.proofs.StringLaws.{Octets-append, same_tells}
 use Rattle.units.proofs.SumLaws.{Octets-sums, length-sums, sums_between, terms}
-use Rattle.generator.specs.Generators.{Meaning, Sound}
+use Rattle.generator.specs.Generators.{IsNonce, Meaning, Sound}
 use Rattle.cover.specs.Keystream.{covered, stream}
 
 -- ---- byte strings
@@ -36,20 +36,20 @@ begun_enough n = omega arith
 
 -- ---- under a nonce of a sound meaning
 
-module _ (m : Meaning) (sound : Sound m) (n : List ℕ) where
+module _ (m : Meaning) (sound : Sound m) (n : List ℕ) (is : IsNonce n) where
   -- sixteen bytes for each block
   pub length-stream : (count : ℕ) → count ≤ m.reach n → length (stream m n count) ≡ 16 * count
   unfolding stream
   length-stream zero h = refl
   length-stream (suc k) h =
       let front = length-stream k (omega arith) in
-      let last = sound.sixteen n k h in
+      let last = sound.sixteen n k is h in
       length-append (stream m n k) (m.block n k) ∙ omega arith
 
   Octets-stream : (count : ℕ) → count ≤ m.reach n → Octets (stream m n count)
   unfolding stream
   Octets-stream zero h i = omega arith
-  Octets-stream (suc k) h i = Octets-append (stream m n k) (m.block n k) (Octets-stream k (omega arith)) (sound.octets n k h) i
+  Octets-stream (suc k) h i = Octets-append (stream m n k) (m.block n k) (Octets-stream k (omega arith)) (sound.octets n k is h) i
 
   module _ (bits : ℕ) (text : List ℕ) (reaches : begun bits ≤ m.reach n) (long : length text ≡ filled bits) where
     -- the keystream goes as far as the text

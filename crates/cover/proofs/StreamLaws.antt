@@ -3,7 +3,7 @@ use Rattle.std.proofs.Common.{◌≡◌, ℕ, zero, suc, ◌+◌, ◌-◌, ◌*�
 use Rattle.std.proofs.lemmas.Bool.Decides.{nat_tests}
 use Rattle.field.specs.declared.blocks.Block.{Block}
 use Rattle.field.specs.Blocks.{block_bytes}
-use Rattle.generator.specs.Generators.{Meaning, Same, Sound, answered, block_of}
+use Rattle.generator.specs.Generators.{IsNonce, Meaning, Same, Sound, answered, block_of}
 use Rattle.cover.specs.Keystream.{covered, stream}
 use Rattle.units.specs.Sums.{◌⊕◌, sums}
 use Rattle.units.specs.Lengths.{begun, filled}
@@ -17,12 +17,13 @@ use Rattle.cover.proofs.SlotLaws.{block_back}
 -- the bytes of a block that a generator answered
 pub answered_block : (m : Meaning) (n : List ℕ) (i : ℕ) (b : Block)
     → Sound m
+    → IsNonce n
     → i < m.reach n
     → answered m n i ≡ Ok b
     → block_bytes b.0 ≡ m.block n i
-answered_block m n i b s h e =
+answered_block m n i b s is h e =
     let given : b ≡ block_of (m.block n i) = grind (arith, nat_tests) in
-    ap (λ (x : Block). block_bytes x.0) given ∙ block_back (m.block n i) (s.sixteen n i h) (s.octets n i h)
+    ap (λ (x : Block). block_bytes x.0) given ∙ block_back (m.block n i) (s.sixteen n i is h) (s.octets n i is h)
 
 sums-append : (xs ks ls : List ℕ) → sums xs (ks ++ ls) ≡ sums xs ks ++ sums (drop (length ks) xs) ls
 sums-append [] [] ls = refl
@@ -55,6 +56,7 @@ begun_none m n text old = record { is = none text }
 pub begun_more : (m m' : Meaning) (n text : List ℕ) (i to : ℕ) (old out sum : List ℕ)
     → Sound m
     → Same m m'
+    → IsNonce n
     → i < m.reach n
     → Begun m n text i old out
     → 16 * i < length text
@@ -63,13 +65,13 @@ pub begun_more : (m m' : Meaning) (n text : List ℕ) (i to : ℕ) (old out sum 
     → sum ≡ sums (take (to - 16 * i) (drop (16 * i) text)) (m'.block n i)
     → Begun m n text (i + 1) old (put_mid (16 * i) (to - 16 * i) out sum)
 unfolding stream
-begun_more m m' n text i to old out sum sound same within b h e lo s =
+begun_more m m' n text i to old out sum sound same is within b h e lo s =
     let at : ℕ = 16 * i in
     let key = m'.block n i in
-    let k : key ≡ m.block n i = same.block n i within in
-    let lk : length key ≡ 16 = ap length k ∙ sound.sixteen n i within in
+    let k : key ≡ m.block n i = same.block n i is within in
+    let lk : length key ≡ 16 = ap length k ∙ sound.sixteen n i is within in
     let keys = stream m n i in
-    let ls : length keys ≡ 16 * i = length-stream m sound n i (omega arith) in
+    let ls : length keys ≡ 16 * i = length-stream m sound n is i (omega arith) in
     let front = sums text keys in
     let back = drop at text in
     let long : length front ≡ at = length-sums_r text keys (omega arith) ∙ ls in
@@ -114,11 +116,12 @@ begun_all m n text bits old out b l =
 -- generators that mean the same cover alike
 pub covered_same : (m m' : Meaning) (n : List ℕ) (bits : ℕ) (text : List ℕ)
     → Same m m'
+    → IsNonce n
     → begun bits ≤ m.reach n
     → covered m' n bits text ≡ covered m n bits text
 unfolding covered stream
-covered_same m m' n bits text s h = ap (λ (k : List ℕ). cleared bits (sums text k)) (streams (begun bits) h)
+covered_same m m' n bits text s is h = ap (λ (k : List ℕ). cleared bits (sums text k)) (streams (begun bits) h)
   where
     streams : (i : ℕ) → i ≤ m.reach n → stream m' n i ≡ stream m n i
     streams zero h = refl
-    streams (suc i) h = ap₂ (λ (x y : List ℕ). x ++ y) (streams i (omega arith)) (s.block n i h)
+    streams (suc i) h = ap₂ (λ (x y : List ℕ). x ++ y) (streams i (omega arith)) (s.block n i is h)

@@ -10,7 +10,7 @@ use Rattle.units.proofs.StringLaws.{same_tells, united_none}
 use Rattle.units.proofs.SumLaws.{xor_cancel}
 use Rattle.field.specs.Blocks.{block_bytes, polynomial}
 use Rattle.field.specs.Tags.{tag, whole_tag}
-use Rattle.generator.specs.Generators.{Meaning, Same}
+use Rattle.generator.specs.Generators.{IsNonce, Meaning, Same}
 use Rattle.cover.specs.Tags.{key_h, key_p, key_q, tag_under}
 use Rattle.cover.specs.WorkArea.{slot}
 
@@ -77,12 +77,12 @@ unfolding slot
 slot_begins n at xs h = sym (take-take n 16 (drop at xs) h)
 
 -- generators that mean the same make the same tags: what is made with the one is the tag of the other
-pub tag_same : (m m' : Meaning) (n : List ℕ) (t aad_bits : ℕ) (aad : List ℕ) (bits : ℕ) (ciphertext whole : List ℕ) → Same m m' → 3 ≤ m.reach n
+pub tag_same : (m m' : Meaning) (n : List ℕ) (t aad_bits : ℕ) (aad : List ℕ) (bits : ℕ) (ciphertext whole : List ℕ) → Same m m' → IsNonce n → 3 ≤ m.reach n
     → whole ≡ block_bytes (whole_tag (key_h m' n) (key_q m' n) (key_p m' n) aad_bits aad bits ciphertext)
     → take t whole ≡ tag_under m n t aad_bits aad bits ciphertext
 unfolding tag_under tag
-tag_same m m' n t aad_bits aad bits ciphertext whole s r e =
-    let h : key_h m' n ≡ key_h m n = ap polynomial (s.block n 0 (omega arith)) in
-    let q : key_q m' n ≡ key_q m n = ap polynomial (s.block n 1 (omega arith)) in
-    let p : key_p m' n ≡ key_p m n = ap polynomial (s.block n 2 (omega arith)) in
+tag_same m m' n t aad_bits aad bits ciphertext whole s is r e =
+    let h : key_h m' n ≡ key_h m n = ap polynomial (s.block n 0 is (omega arith)) in
+    let q : key_q m' n ≡ key_q m n = ap polynomial (s.block n 1 is (omega arith)) in
+    let p : key_p m' n ≡ key_p m n = ap polynomial (s.block n 2 is (omega arith)) in
     cc

@@ -3,11 +3,11 @@ use Rattle.std.specs.Prelude.{◌≡◌, ℕ, ◌||◌, false, true, not, List, 
 use Rattle.units.specs.Lengths.{begun, filled, unlike}
 use Rattle.units.specs.Refusals.{◌⊳◌}
 use Rattle.units.specs.Spare.{clear, cleared}
-use Rattle.units.specs.Strings.{same}
+use Rattle.units.specs.Strings.{Octets, same}
 use Rattle.units.specs.declared.refusals.Reason.TheVariants.{WorkArea, InputBytes, OutputBytes, SpareBits, WrongTag}
 use Rattle.units.specs.declared.refusals.Refusal.{Refusal}
 use Rattle.generator.specs.Generators.{Meaning, Sound}
-use Rattle.nonces.specs.Nonces.{nonce, nonce_refusal}
+use Rattle.nonces.specs.Nonces.{extra_bytes, nonce, nonce_refusal}
 use Rattle.nonces.specs.declared.Parameters.{Parameters}
 use Rattle.cover.specs.Answers.{Written, refused_here, too_short, written}
 use Rattle.cover.specs.Keystream.{covered}
@@ -90,6 +90,7 @@ abbrev pub CoveredOpens : Type 0
 CoveredOpens =
     (m : Meaning) (work : ℕ) (p : Parameters) (t aad_bits : ℕ) (aad : List ℕ) (bits : ℕ) (message ciphertext tag buffer : List ℕ)
     → Sound m
+    → Octets (extra_bytes p.extra_iv)
     → cover_refusal m work p t aad_bits aad bits message ciphertext tag ≡ None
     → length buffer ≡ filled bits
     → nca5_open m work p t aad_bits aad bits

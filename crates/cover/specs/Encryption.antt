@@ -3,10 +3,11 @@ use Rattle.std.specs.Prelude.{◌≡◌, ℕ, false, List, length, Ok, Option, N
 use Rattle.units.specs.Lengths.{begun, filled, unlike}
 use Rattle.units.specs.Refusals.{◌⊳◌}
 use Rattle.units.specs.Spare.{cleared}
+use Rattle.units.specs.Strings.{Octets}
 use Rattle.units.specs.declared.refusals.Reason.TheVariants.{WorkArea, BitLength, InputBytes, OutputBytes}
 use Rattle.units.specs.declared.refusals.Refusal.{Refusal}
 use Rattle.generator.specs.Generators.{Meaning, Sound}
-use Rattle.nonces.specs.Nonces.{nonce, nonce_refusal}
+use Rattle.nonces.specs.Nonces.{extra_bytes, nonce, nonce_refusal}
 use Rattle.nonces.specs.declared.Parameters.{Parameters}
 use Rattle.cover.specs.Answers.{Written, refused_here, too_short, written}
 use Rattle.cover.specs.Keystream.{covered}
@@ -35,5 +36,6 @@ abbrev pub Nea5Twice : Type 0
 Nea5Twice =
     (m : Meaning) (work : ℕ) (p : Parameters) (bits : ℕ) (input output : List ℕ)
     → Sound m
+    → Octets (extra_bytes p.extra_iv)
     → nea5_refusal m work p bits input output ≡ None
     → nea5 m work p bits (nea5 m work p bits input output).output output ≡ record { answer = Ok tt; output = cleared bits input }

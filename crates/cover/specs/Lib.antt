@@ -5,3 +5,4 @@ pub mod Answers
 pub mod Encryption
 pub mod Integrity
 pub mod Combined
+pub mod Laws

@@ -6,6 +6,7 @@ ghost use Rattle.cover.specs.Combined.{Nca5Stands, covering, nca5_cover, nca5_op
 ghost use Rattle.cover.specs.WorkArea.{wiped};
 
 use super::keystream::cover;
+use super::laws;
 use super::refusing::{refuse_if, refuse_short, unfilled};
 use super::tags::{KEYS, put_tag};
 use super::work_area::{WORK_AREA, WorkArea};
@@ -16,7 +17,6 @@ use units::{BitString, Reason, Refusal};
 /// Writes the ciphertext of a message, with the spare bits cleared, and its tag of `tag_size` bytes.
 ///
 /// The work area is zero afterwards, whatever the answer. A refusal leaves ciphertext and tag as they were.
-#[tactic(auto, using(crate::proofs::CoverLaws::nca5_stands))]
 pub fn nca5_cover<G: Generator>(
     generator: &mut G,
     work: &mut [u8],
@@ -32,6 +32,7 @@ pub fn nca5_cover<G: Generator>(
     ensures same { Same (G.meaning generator.old) (G.meaning generator.new) }
     ensures stands { Nca5Stands }
 {
+    stands();
     let bits = message.bits;
     let mut area = WorkArea::new(work);
     refuse_if(area.len() != WORK_AREA, Reason::WorkArea)?;
@@ -64,7 +65,6 @@ pub fn nca5_cover<G: Generator>(
 /// compared before a byte of the message is written.
 ///
 /// The work area is zero afterwards, whatever the answer. A refusal leaves the place for the message as it was.
-#[tactic(auto, using(crate::proofs::CoverLaws::nca5_stands))]
 pub fn nca5_open<G: Generator>(
     generator: &mut G,
     work: &mut [u8],
@@ -80,6 +80,7 @@ pub fn nca5_open<G: Generator>(
     ensures same { Same (G.meaning generator.old) (G.meaning generator.new) }
     ensures stands { Nca5Stands }
 {
+    stands();
     let bits = ciphertext.bits;
     let mut area = WorkArea::new(work);
     refuse_if(area.len() != WORK_AREA, Reason::WorkArea)?;
@@ -97,4 +98,11 @@ pub fn nca5_open<G: Generator>(
     refuse_if(!right, Reason::WrongTag)?;
     cover(generator, &stream, &mut area, ciphertext, message);
     Ok(())
+}
+
+/// For a proof alone: what holds of NCA5, and no more, of which the calls' proofs would have to look at each law.
+fn stands()
+    ensures { Nca5Stands }
+{
+    laws();
 }

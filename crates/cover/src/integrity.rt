@@ -6,6 +6,7 @@ ghost use Rattle.cover.specs.Integrity.{nia5};
 ghost use Rattle.cover.specs.Tags.{TwoTags};
 ghost use Rattle.cover.specs.WorkArea.{wiped};
 
+use super::laws;
 use super::refusing::{refuse_if, refuse_short, unfilled};
 use super::tags::{KEYS, put_tag};
 use super::work_area::{WORK_AREA, WorkArea};
@@ -22,7 +23,6 @@ const NOTHING: BitString<'static> = BitString {
 /// Writes the tag of a text, of `tag_size` bytes. Comparing it with another is left to the caller.
 ///
 /// The work area is zero afterwards, whatever the answer. A refusal leaves the place for the tag as it was.
-#[tactic(auto, using(crate::proofs::CoverLaws::two_tags))]
 pub fn nia5<G: Generator>(
     generator: &mut G,
     work: &mut [u8],
@@ -36,6 +36,7 @@ pub fn nia5<G: Generator>(
     ensures same { Same (G.meaning generator.old) (G.meaning generator.new) }
     ensures tags { TwoTags }
 {
+    tags();
     let mut area = WorkArea::new(work);
     refuse_if(area.len() != WORK_AREA, Reason::WorkArea)?;
     let nonce = parameters.nonce(Some(tag_size), false, true)?;
@@ -46,4 +47,11 @@ pub fn nia5<G: Generator>(
     put_tag(generator, &nonce, &mut area, text, NOTHING);
     area.copy_to(tag);
     Ok(())
+}
+
+/// For a proof alone: what holds of two tags, and no more, of which the call's proof would have to look at each law.
+fn tags()
+    ensures { TwoTags }
+{
+    laws();
 }

@@ -1,6 +1,6 @@
 //! Keystream, block by block, and covering by it.
 ghost use Rattle.std.specs.Prelude.{◌≡◌, ℕ, ◌<◌, ◌≤◌, ◌+◌, length};
-ghost use Rattle.generator.specs.Generators.{Same};
+ghost use Rattle.generator.specs.Generators.{IsNonce, Same};
 ghost use Rattle.cover.specs.Keystream.{covered};
 ghost use Rattle.cover.specs.WorkArea.{slot};
 ghost use Rattle.units.specs.Lengths.{begun, filled};
@@ -19,6 +19,7 @@ pub(crate) fn fetch<G: Generator>(
     area: &mut WorkArea<'_>,
     place: usize,
 )
+    requires nonce { IsNonce nonce.now.0 }
     requires within { index < (G.meaning generator.now).reach nonce.now.0 }
     requires room { place + 16 ≤ length area.now.bytes.now }
     ensures name { area.new.bytes.ghost_name ≡ area.old.bytes.ghost_name }
@@ -42,6 +43,7 @@ pub(crate) fn cover<G: Generator>(
     text: BitString<'_>,
     out: &mut [u8],
 )
+    requires nonce { IsNonce nonce.now.0 }
     requires within { begun text.bits.0 ≤ (G.meaning generator.now).reach nonce.now.0 }
     requires room { length area.now.bytes.now ≡ 64 }
     requires text { length text.bytes.now ≡ filled text.bits.0 }
@@ -88,6 +90,7 @@ fn cover_block<G: Generator>(
     text: &[u8],
     out: &mut [u8],
 )
+    requires nonce { IsNonce nonce.now.0 }
     requires within { index < (G.meaning generator.now).reach nonce.now.0 }
     requires room { length area.now.bytes.now ≡ 64 }
     requires short { length text.now ≤ 16 }

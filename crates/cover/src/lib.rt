@@ -4,6 +4,8 @@
 //! refused. The caller lends it a work area of `WORK_AREA` bytes, which is zero afterwards on every way out.
 #![tactic(auto)]
 
+ghost use Rattle.cover.specs.Laws.{CoverLaws};
+
 pub mod combined;
 pub mod encryption;
 pub mod integrity;
@@ -16,3 +18,11 @@ pub use combined::{nca5_cover, nca5_open};
 pub use encryption::nea5;
 pub use integrity::nia5;
 pub use work_area::{WORK_AREA, WorkArea};
+
+/// What the layers above rest on. It does nothing: a caller's proof has the laws from its contract.
+pub fn laws()
+    ensures { CoverLaws }
+{
+    field::laws();
+    nonces::laws();
+}

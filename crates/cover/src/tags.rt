@@ -2,7 +2,7 @@
 ghost use Rattle.std.specs.Prelude.{◌≡◌, ◌≤◌, length};
 ghost use Rattle.field.specs.Blocks.{block_bytes};
 ghost use Rattle.field.specs.Tags.{whole_tag};
-ghost use Rattle.generator.specs.Generators.{Same};
+ghost use Rattle.generator.specs.Generators.{IsNonce, Same};
 ghost use Rattle.cover.specs.Tags.{key_h, key_p, key_q};
 ghost use Rattle.cover.specs.WorkArea.{slot};
 
@@ -18,6 +18,7 @@ pub(crate) const KEYS: u64 = 3;
 
 /// Puts H, Q and P, the first three blocks under a nonce, in their places. They are within the reach.
 fn put_keys<G: Generator>(generator: &mut G, nonce: &Nonce, area: &mut WorkArea<'_>)
+    requires nonce { IsNonce nonce.now.0 }
     requires within { 3 ≤ (G.meaning generator.now).reach nonce.now.0 }
     requires room { length area.now.bytes.now ≡ 64 }
     ensures name { area.new.bytes.ghost_name ≡ area.old.bytes.ghost_name }
@@ -42,6 +43,7 @@ pub(crate) fn put_tag<G: Generator>(
     aad: BitString<'_>,
     ciphertext: BitString<'_>,
 )
+    requires nonce { IsNonce nonce.now.0 }
     requires within { 3 ≤ (G.meaning generator.now).reach nonce.now.0 }
     requires room { length area.now.bytes.now ≡ 64 }
     ensures name { area.new.bytes.ghost_name ≡ area.old.bytes.ghost_name }

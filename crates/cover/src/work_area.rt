@@ -25,9 +25,10 @@ pub(crate) const P: usize = 32;
 /// Where the current block of keystream stands, and the tag while it is made, copied or compared.
 pub(crate) const CURRENT: usize = 48;
 
-/// A guard over the caller's bytes, of whatever length. All of them are zero once it is dropped, on whatever way.
+/// A guard over the caller's bytes, of whatever length. All of them are zero once it is dropped, on whatever way: so nobody
+/// else can put other bytes in their place.
 pub struct WorkArea<'a> {
-    pub bytes: &'a mut [u8],
+    pub(crate) bytes: &'a mut [u8],
 }
 
 impl Drop for WorkArea<'_> {
@@ -45,6 +46,15 @@ impl<'a> WorkArea<'a> {
         ensures name { result.bytes.ghost_name ≡ bytes.entry.ghost_name }
     {
         WorkArea { bytes }
+    }
+
+    /// Gives up the guard and hands the bytes on as they are, to a call that zeroes them on every way out as this does.
+    pub fn into_bytes(self) -> &'a mut [u8]
+        ensures now { result.now ≡ self.entry.bytes.now }
+        ensures name { result.ghost_name ≡ self.entry.bytes.ghost_name }
+    {
+        let WorkArea { bytes } = self;
+        bytes
     }
 }
 

@@ -6,15 +6,6 @@ use Rattle.field.specs.declared.blocks.Block.{Block}
 use Rattle.generator.specs.Generators.{Answers, IsNonce, Meaning, Same, answered, block_of}
 use Rattle.generator.specs.Keystreams.{blocks_from}
 
-pub Same-refl : (a : Meaning) → Same a a
-Same-refl a = record { reach = λ n is. refl; block = λ n i is h. refl }
-
-pub Same-trans : (a b c : Meaning) → Same a b → Same b c → Same a c
-Same-trans a b c s t = record {
-  reach = λ n is. t.reach n is ∙ s.reach n is;
-  block = λ n i is h. let e = s.reach n is in t.block n i is (omega arith) ∙ s.block n i is h;
-}
-
 -- every meaning answers below the reach alone
 pub answers : (m : Meaning) → Answers m
 answers m = record { below = λ n i h. grind (arith, nat_tests); beyond = λ n i h. grind (arith, nat_tests) }

@@ -1,3 +1,4 @@
 pub mod KeyLaws
 pub mod KeystreamLaws
 pub mod PairLaws
+pub mod SameLaws

@@ -84,7 +84,7 @@ impl<G: Generator> Receiver<G> {
         self.window.judge(parts.count)?;
         uncover(
             &mut self.generator,
-            &mut *area.bytes,
+            area.into_bytes(),
             &terms,
             &parts,
             message,

@@ -76,7 +76,7 @@ impl<G: Generator> Sender<G> {
         refuse_if(frame.len() < total.0, Reason::OutputBytes)?;
         refuse_if(self.next > u64::from(u32::MAX), Reason::CountsUsed)?;
         self.write(
-            &mut *area.bytes,
+            area.into_bytes(),
             self.next as u32,
             aad,
             message,

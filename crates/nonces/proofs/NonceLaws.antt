@@ -1,10 +1,9 @@
 -- Nonces.
-use Rattle.std.proofs.Common.{◌≡◌, ℕ, zero, suc, ◌+◌, ◌*◌, ◌/◌, ◌%◌, ◌^◌, ◌<◌, ◌≤◌, Bool, true, false, List, [], ◌∷◌, ◌++◌, length, Some, None, Option, get_or, take, drop, sym, refl, ap, ◌∙◌, arith, length-append}
+use Rattle.std.proofs.Common.{◌≡◌, ℕ, zero, suc, ◌+◌, ◌*◌, ◌/◌, ◌%◌, ◌^◌, ◌<◌, ◌≤◌, Bool, true, false, List, ◌∷◌, ◌++◌, length, Some, None, Option, get_or, take, drop, sym, refl, ap, ◌∙◌, arith, length-append}
 use Rattle.std.proofs.lemmas.Bool.Decides.{nat_tests}
 use Rattle.generator.specs.Generators.{IsNonce}
-use Rattle.nonces.specs.Nonces.{NoncesDiffer, NoncesStand, NoncesTwelve, bit, extra_bytes, nonce, nonce_refusal}
+use Rattle.nonces.specs.Nonces.{NoncesDiffer, NoncesStand, NoncesTwelve, bit, extra_bytes, nonce}
 use Rattle.nonces.specs.declared.ExtraIv.{ExtraIv}
-use Rattle.nonces.specs.declared.Parameters.{Parameters}
 use Rattle.units.specs.Strings.{Octets, four}
 use Rattle.units.proofs.StringLaws.{Octets-append, Octets-four}
 

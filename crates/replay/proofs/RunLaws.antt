@@ -4,7 +4,7 @@ use Rattle.std.specs.Prelude.{Err, IsErr, Ok, OnErr, Result}
 use mathlib.Core.List.{append_assoc, append-nil}
 use Rattle.std.proofs.lemmas.List.{drop_all, drop_more, map_push, take-map, take_more}
 use Rattle.generator.specs.Generators.{Meaning, Same}
-use Rattle.generator.proofs.KeystreamLaws.{Same-trans}
+use Rattle.generator.proofs.SameLaws.{Same-trans}
 use Rattle.windows.specs.declared.Window.{Window}
 use Rattle.link.specs.declared.settings.Settings.{Settings}
 use Rattle.replay.specs.Asked.{AllAsked, OctetsAsked}

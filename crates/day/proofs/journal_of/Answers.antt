@@ -1,5 +1,5 @@
 use Rattle.std.proofs.Common.{◌≡◌, ◌∙◌, ap, refl}
-use Rattle.generator.proofs.KeystreamLaws.{Same-refl}
+use Rattle.generator.proofs.SameLaws.{Same-refl}
 use Rattle.day.proofs.journal_of.Goals as goal
 
 -- both ends have the key and the settings, and the window is new

@@ -1,5 +1,5 @@
 use Rattle.std.proofs.Common.{◌≡◌, ◌+◌, length, ap, rules}
-use Rattle.generator.proofs.KeystreamLaws.{Same-trans}
+use Rattle.generator.proofs.SameLaws.{Same-trans}
 use Rattle.aes_generator.specs.AesGenerator.{aes_meaning}
 use Rattle.cover.specs.Combined.{Covering, covering}
 use Rattle.bench.specs.Turns.{covered_turns, tag_size}

@@ -1,5 +1,5 @@
 use Rattle.std.proofs.Common.{◌≡◌, length, rules}
-use Rattle.generator.proofs.KeystreamLaws.{Same-trans}
+use Rattle.generator.proofs.SameLaws.{Same-trans}
 use Rattle.aes_generator.specs.AesGenerator.{aes_meaning}
 use Rattle.bench.specs.Turns.{tag_size}
 use Rattle.bench.proofs.TurnLaws.{opened_more}

@@ -1,5 +1,5 @@
 use Rattle.std.proofs.Common.{rules}
-use Rattle.generator.proofs.KeystreamLaws.{Same-trans}
+use Rattle.generator.proofs.SameLaws.{Same-trans}
 use Rattle.aes_generator.specs.AesGenerator.{aes_meaning}
 use Rattle.bench.proofs.TurnLaws.{encrypted_more}
 use Rattle.bench.proofs.messages.bench_nea5.Goals as goal

@@ -1,12 +1,11 @@
 use Rattle.std.proofs.Common.{◌≡◌, length, ap, ◌∙◌, rules}
 use Rattle.generator.specs.Generators.{Same}
-use Rattle.generator.proofs.KeystreamLaws.{Same-trans}
+use Rattle.generator.proofs.SameLaws.{Same-trans}
 use Rattle.cover.specs.Keystream.{covered}
 use Rattle.cover.specs.Tags.{tag_under}
 use Rattle.cover.proofs.CallLaws.{reaches}
 use Rattle.cover.proofs.StreamLaws.{covered_same}
 use Rattle.cover.proofs.TagLaws.{tag_same}
-use Rattle.cover.proofs.CoverLaws.{nca5_stands}
 use Rattle.cover.proofs.combined.nca5_cover.Goals as goal
 
 pub returns-clause-outcome : goal.returns-clause-outcome
@@ -21,8 +20,10 @@ returns-clause-outcome g c =
     let message = c.args.message.bytes.now in
     let aad = c.args.aad.bytes.now in
     let size = length c.args.tag.now in
+    let keys_is = c.in_ok-keys.ensures.twelve in
+    let stream_is = c.in_ok-stream.ensures.twelve in
     let known =
-    reaches m (mean c.refuse_short.new.generator) tested keys stream bits
+    reaches m (mean c.refuse_short.new.generator) tested keys stream bits stream_is
     c.refuse_short.ensures.same
     c.refuse_short-2.ensures.same
     (search rules)
@@ -30,36 +31,12 @@ returns-clause-outcome g c =
     in
     let all : Same m covering = Same-trans m tested covering known.same c.cover.ensures.same in
     let out : c.cover.new.out ≡ covered m stream bits message =
-    c.cover.ensures.out ∙ covered_same m tested stream bits message known.same known.far
+    c.cover.ensures.out ∙ covered_same m tested stream bits message known.same stream_is known.far
     in
     let made : c.copy_to.new.tag ≡ tag_under m keys size c.args.aad.bits.0 aad bits (covered m stream bits message) =
     c.copy_to.ensures
-    ∙ tag_same m covering keys size c.args.aad.bits.0 aad bits c.cover.new.out _ all known.enough c.put_tag.ensures.tag
+    ∙ tag_same m covering keys size c.args.aad.bits.0 aad bits c.cover.new.out _ all keys_is known.enough c.put_tag.ensures.tag
     ∙ ap (tag_under m keys size c.args.aad.bits.0 aad bits) out
     in
     let size_is : size ≡ c.args.tag_size = search rules in
     search rules
-
-pub returns-in_err-refuse_if-clause-stands : goal.returns-in_err-refuse_if-clause-stands
-returns-in_err-refuse_if-clause-stands g c = nca5_stands
-
-pub returns-in_err-keys-clause-stands : goal.returns-in_err-keys-clause-stands
-returns-in_err-keys-clause-stands g c = nca5_stands
-
-pub returns-in_err-stream-clause-stands : goal.returns-in_err-stream-clause-stands
-returns-in_err-stream-clause-stands g c = nca5_stands
-
-pub returns-in_err-refuse_if-2-clause-stands : goal.returns-in_err-refuse_if-2-clause-stands
-returns-in_err-refuse_if-2-clause-stands g c = nca5_stands
-
-pub returns-in_err-refuse_if-3-clause-stands : goal.returns-in_err-refuse_if-3-clause-stands
-returns-in_err-refuse_if-3-clause-stands g c = nca5_stands
-
-pub returns-in_err-refuse_short-clause-stands : goal.returns-in_err-refuse_short-clause-stands
-returns-in_err-refuse_short-clause-stands g c = nca5_stands
-
-pub returns-in_err-refuse_short-2-clause-stands : goal.returns-in_err-refuse_short-2-clause-stands
-returns-in_err-refuse_short-2-clause-stands g c = nca5_stands
-
-pub returns-clause-stands : goal.returns-clause-stands
-returns-clause-stands g c = nca5_stands

@@ -1,11 +1,10 @@
 use Rattle.std.proofs.Common.{◌≡◌, length, ap, ◌∙◌, rules}
 use Rattle.units.specs.Strings.{same}
-use Rattle.generator.proofs.KeystreamLaws.{Same-trans}
+use Rattle.generator.proofs.SameLaws.{Same-trans}
 use Rattle.cover.specs.Keystream.{covered}
 use Rattle.cover.proofs.CallLaws.{reaches}
 use Rattle.cover.proofs.StreamLaws.{covered_same}
 use Rattle.cover.proofs.TagLaws.{tag_same}
-use Rattle.cover.proofs.CoverLaws.{nca5_stands}
 use Rattle.cover.proofs.combined.nca5_open.Goals as goal
 
 pub returns-in_err-refuse_if-5-clause-outcome : goal.returns-in_err-refuse_if-5-clause-outcome
@@ -17,14 +16,14 @@ returns-in_err-refuse_if-5-clause-outcome g c =
     let bits = c.args.ciphertext.bits.0 in
     let tag = c.args.tag.now in
     let known =
-    reaches m (mean c.refuse_short.new.generator) tested keys c.in_ok-stream.stream.0 bits
+    reaches m (mean c.refuse_short.new.generator) tested keys c.in_ok-stream.stream.0 bits c.in_ok-stream.ensures.twelve
     c.refuse_short.ensures.same
     c.refuse_short-2.ensures.same
     (search rules)
     (search rules)
     in
     let made =
-    tag_same m tested keys (length tag) c.args.aad.bits.0 c.args.aad.bytes.now bits c.args.ciphertext.bytes.now _ known.same known.enough c.put_tag.ensures.tag
+    tag_same m tested keys (length tag) c.args.aad.bits.0 c.args.aad.bytes.now bits c.args.ciphertext.bytes.now _ known.same c.in_ok-keys.ensures.twelve known.enough c.put_tag.ensures.tag
     in
     let judged = c.begins_with-right.ensures ∙ ap (same tag) made in
     let size_is : length tag ≡ c.args.tag_size = search rules in
@@ -42,49 +41,19 @@ returns-clause-outcome g c =
     let ciphertext = c.args.ciphertext.bytes.now in
     let tag = c.args.tag.now in
     let known =
-    reaches m (mean c.refuse_short.new.generator) tested keys stream bits
+    reaches m (mean c.refuse_short.new.generator) tested keys stream bits c.in_ok-stream.ensures.twelve
     c.refuse_short.ensures.same
     c.refuse_short-2.ensures.same
     (search rules)
     (search rules)
     in
     let made =
-    tag_same m tested keys (length tag) c.args.aad.bits.0 c.args.aad.bytes.now bits ciphertext _ known.same known.enough c.put_tag.ensures.tag
+    tag_same m tested keys (length tag) c.args.aad.bits.0 c.args.aad.bytes.now bits ciphertext _ known.same c.in_ok-keys.ensures.twelve known.enough c.put_tag.ensures.tag
     in
     let judged = c.begins_with-right.ensures ∙ ap (same tag) made in
     let all = Same-trans m tested tagged known.same c.put_tag.ensures.same in
     let out : c.cover.new.out ≡ covered m stream bits ciphertext =
-    c.cover.ensures.out ∙ covered_same m tagged stream bits ciphertext all known.far
+    c.cover.ensures.out ∙ covered_same m tagged stream bits ciphertext all c.in_ok-stream.ensures.twelve known.far
     in
     let size_is : length tag ≡ c.args.tag_size = search rules in
     search rules
-
-pub returns-in_err-refuse_if-clause-stands : goal.returns-in_err-refuse_if-clause-stands
-returns-in_err-refuse_if-clause-stands g c = nca5_stands
-
-pub returns-in_err-keys-clause-stands : goal.returns-in_err-keys-clause-stands
-returns-in_err-keys-clause-stands g c = nca5_stands
-
-pub returns-in_err-stream-clause-stands : goal.returns-in_err-stream-clause-stands
-returns-in_err-stream-clause-stands g c = nca5_stands
-
-pub returns-in_err-refuse_if-2-clause-stands : goal.returns-in_err-refuse_if-2-clause-stands
-returns-in_err-refuse_if-2-clause-stands g c = nca5_stands
-
-pub returns-in_err-refuse_if-3-clause-stands : goal.returns-in_err-refuse_if-3-clause-stands
-returns-in_err-refuse_if-3-clause-stands g c = nca5_stands
-
-pub returns-in_err-refuse_if-4-clause-stands : goal.returns-in_err-refuse_if-4-clause-stands
-returns-in_err-refuse_if-4-clause-stands g c = nca5_stands
-
-pub returns-in_err-refuse_short-clause-stands : goal.returns-in_err-refuse_short-clause-stands
-returns-in_err-refuse_short-clause-stands g c = nca5_stands
-
-pub returns-in_err-refuse_short-2-clause-stands : goal.returns-in_err-refuse_short-2-clause-stands
-returns-in_err-refuse_short-2-clause-stands g c = nca5_stands
-
-pub returns-in_err-refuse_if-5-clause-stands : goal.returns-in_err-refuse_if-5-clause-stands
-returns-in_err-refuse_if-5-clause-stands g c = nca5_stands
-
-pub returns-clause-stands : goal.returns-clause-stands
-returns-clause-stands g c = nca5_stands

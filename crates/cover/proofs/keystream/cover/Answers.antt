@@ -1,6 +1,6 @@
 use Rattle.std.proofs.Common.{◌≡◌, ◌<◌, ◌+◌, ◌-◌, ◌*◌, ℕ, length, subst, sym, ap, ◌∙◌, arith, rules}
 use borrow.Rule.Slice.PartMut.{put_mid}
-use Rattle.generator.proofs.KeystreamLaws.{Same-trans}
+use Rattle.generator.proofs.SameLaws.{Same-trans}
 use Rattle.units.specs.Lengths.{begun, filled}
 use Rattle.cover.proofs.StreamLaws.{Begun, begun_all, begun_more, begun_none}
 use Rattle.cover.proofs.keystream.cover.Goals as goal
@@ -31,7 +31,7 @@ loop-index-preserved g c =
       name = search rules;
       room = c.cover_block.ensures.room;
       out =
-          begun_more m (mean c.loop-index.generator) n text i (16 * i + 16) c.args.out.now c.loop-index.out c.cover_block.new.out sound inv.same within inv.out
+          begun_more m (mean c.loop-index.generator) n text i (16 * i + 16) c.args.out.now c.loop-index.out c.cover_block.new.out sound inv.same c.requires.nonce within inv.out
           (omega arith)
           (omega arith)
           (omega arith)
@@ -60,7 +60,7 @@ returns-clause-out g c =
           let last = w.cover_block-then-left-gt0 in
           let within : whole < m.reach n = omega (arith, c.requires.within, w.if-left-gt0.true) in
           let more =
-          begun_more m (mean c.loop-index.generator) n text whole (length text) old c.loop-index.out last.new.out sound inv.same within before
+          begun_more m (mean c.loop-index.generator) n text whole (length text) old c.loop-index.out last.new.out sound inv.same c.requires.nonce within before
           (omega (arith, w.if-left-gt0.true))
           (omega (arith, w.if-left-gt0.true))
           (omega arith)

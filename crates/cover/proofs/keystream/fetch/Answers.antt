@@ -9,6 +9,6 @@ returns-clause-here g c =
     let n = c.args.nonce.now.0 in
     let sound = g.met.G.Generator.sound c.args.generator.now in
     let bytes : block_bytes c.in-Ok.block.0 ≡ m.block n c.args.index =
-    answered_block m n c.args.index c.in-Ok.block sound c.requires.within (sym c.in-Ok.ensures.value)
+    answered_block m n c.args.index c.in-Ok.block sound c.requires.nonce c.requires.within (sym c.in-Ok.ensures.value)
     in
     c.put.ensures.here ∙ bytes

@@ -1,5 +1,6 @@
 use Rattle.std.proofs.Common.{sym, ◌∙◌, arith}
-use Rattle.generator.proofs.KeystreamLaws.{Same-trans, filled_more}
+use Rattle.generator.proofs.KeystreamLaws.{filled_more}
+use Rattle.generator.proofs.SameLaws.{Same-trans}
 use Rattle.generator.proofs.keystreams.keystream.Goals as goal
 
 pub loop-k-preserved : goal.loop-k-preserved
