@@ -3,7 +3,7 @@ ghost use Rattle.std.specs.Prelude.{◌≡◌, ℕ, ◌+◌, ◌≤◌, length, 
 ghost use Rattle.units.specs.Strings.{same};
 ghost use Rattle.units.specs.Sums.{sums};
 ghost use Rattle.field.specs.Blocks.{block_bytes, polynomial};
-ghost use Rattle.cover.specs.WorkArea.{slot, wiped};
+ghost use Rattle.cover.specs.WorkArea.{held, slot, wiped};
 
 use field::Block;
 
@@ -25,8 +25,8 @@ pub(crate) const P: usize = 32;
 /// Where the current block of keystream stands, and the tag while it is made, copied or compared.
 pub(crate) const CURRENT: usize = 48;
 
-/// A guard over the caller's bytes, of whatever length. All of them are zero once it is dropped, on whatever way: so nobody
-/// else can put other bytes in their place.
+/// A guard over the caller's bytes, of whatever length. All of them are zero once it is dropped, on whatever way: so no layer
+/// above can put other bytes in their place, and it covers and opens by the guard's own calls.
 pub struct WorkArea<'a> {
     pub(crate) bytes: &'a mut [u8],
 }
@@ -42,25 +42,16 @@ impl Drop for WorkArea<'_> {
 
 impl<'a> WorkArea<'a> {
     pub fn new(bytes: &'a mut [u8]) -> WorkArea<'a>
-        ensures now { result.bytes.now ≡ bytes.entry.now }
+        ensures now { held result ≡ bytes.entry.now }
         ensures name { result.bytes.ghost_name ≡ bytes.entry.ghost_name }
     {
         WorkArea { bytes }
-    }
-
-    /// Gives up the guard and hands the bytes on as they are, to a call that zeroes them on every way out as this does.
-    pub fn into_bytes(self) -> &'a mut [u8]
-        ensures now { result.now ≡ self.entry.bytes.now }
-        ensures name { result.ghost_name ≡ self.entry.bytes.ghost_name }
-    {
-        let WorkArea { bytes } = self;
-        bytes
     }
 }
 
 impl WorkArea<'_> {
     pub fn len(&self) -> usize
-        ensures { result ≡ length self.now.bytes.now }
+        ensures { result ≡ length (held self.now) }
     {
         self.bytes.len()
     }

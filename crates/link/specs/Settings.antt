@@ -1,9 +1,10 @@
 -- What an end is set to.
 use Rattle.std.specs.Prelude.{ℕ, ◌+◌, ◌*◌, ◌≤◌, Option, Result}
 use Rattle.units.specs.Refusals.{◌⊳◌, unless}
+use Rattle.units.specs.Strings.{Octets}
 use Rattle.units.specs.declared.refusals.Reason.TheVariants.{BearerDirection, TagSize}
 use Rattle.units.specs.declared.refusals.Refusal.{Refusal}
-use Rattle.nonces.specs.Nonces.{line_outside, size_outside}
+use Rattle.nonces.specs.Nonces.{extra_bytes, line_outside, size_outside}
 use Rattle.nonces.specs.declared.Parameters.{Parameters}
 use Rattle.link.specs.Answers.{refused_here}
 use Rattle.link.specs.declared.settings.Terms.{Terms}
@@ -24,6 +25,7 @@ pub record Lawful (s : Terms) : Type 0 where
   pub direction : s.direction ≤ 1
   pub smallest : 4 ≤ s.tag_size
   pub largest : s.tag_size ≤ 16
+  pub extra_iv : Octets (extra_bytes s.extra_iv)
 
 -- terms and a first count
 pub record Setting : Type 0 where

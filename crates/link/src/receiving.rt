@@ -2,7 +2,7 @@
 ghost use Rattle.std.specs.Prelude.{◌≡◌, ◌≤◌, ◌+◌, IfOk, MatchResult, Some, false, length};
 ghost use Rattle.generator.specs.Generators.{Same};
 ghost use Rattle.cover.specs.Answers.{outcome, written};
-ghost use Rattle.cover.specs.WorkArea.{wiped};
+ghost use Rattle.cover.specs.WorkArea.{Holds, held, wiped};
 ghost use Rattle.units.specs.Lengths.{filled};
 ghost use Rattle.windows.specs.Windows.{loss, new_window};
 ghost use Rattle.frames.specs.Frames.{Fits, FitsIn, parts, view};
@@ -12,7 +12,7 @@ ghost use Rattle.link.specs.Settings.{Lawful};
 
 use super::refusing::refuse_if;
 use super::settings::{Settings, Terms};
-use cover::{WORK_AREA, WorkArea, nca5_open};
+use cover::{WORK_AREA, WorkArea};
 use frames::{Frame, HEAD, MESSAGE_BUFFER};
 use generator::Generator;
 use nonces::refuse as refuse_by_cover;
@@ -75,20 +75,13 @@ impl<G: Generator> Receiver<G> {
         ensures settings { self.new.settings ≡ self.old.settings }
         ensures same { Same (G.meaning self.old.generator) (G.meaning self.new.generator) }
     {
-        frames::laws();
-        let area = WorkArea::new(work);
+        let mut area = WorkArea::new(work);
         refuse_if(area.len() != WORK_AREA, Reason::WorkArea)?;
         refuse_if(message.len() < MESSAGE_BUFFER.0, Reason::OutputBytes)?;
         let terms = self.settings.terms;
         let parts = well_formed(&terms, frame)?;
         self.window.judge(parts.count)?;
-        uncover(
-            &mut self.generator,
-            area.into_bytes(),
-            &terms,
-            &parts,
-            message,
-        )?;
+        uncover(&mut self.generator, &mut area, &terms, &parts, message)?;
         self.window.mark(parts.count);
         Ok(Opened {
             count: parts.count,
@@ -112,7 +105,9 @@ fn well_formed<'a>(terms: &Terms, frame: &'a [u8]) -> Result<Frame<'a>, Refusal>
     ensures tests { MatchResult result (λ _. WellFormed terms.now frame.entry.now) (λ r. frame_refusal terms.now frame.entry.now ≡ Some r) }
     ensures parts { IfOk result (λ p. view p ≡ parts frame.entry.now) }
     ensures fits { FitsIn result }
+    ensures aad { IfOk result (λ p. 12 + filled p.aad.bits.0 ≤ length frame.entry.now) }
 {
+    frames::laws();
     let parts = Frame::parse(frame)?;
     refuse_if(
         parts.line != terms.line() || parts.tag_size != terms.tag_size,
@@ -129,7 +124,7 @@ fn well_formed<'a>(terms: &Terms, frame: &'a [u8]) -> Result<Frame<'a>, Refusal>
 #[tactic(auto, unfolding(units::specs::Lengths::filled))]
 fn uncover<G: Generator>(
     generator: &mut G,
-    work: &mut [u8],
+    area: &mut WorkArea<'_>,
     terms: &Terms,
     parts: &Frame<'_>,
     message: &mut [u8],
@@ -138,15 +133,15 @@ fn uncover<G: Generator>(
     requires fits { Fits (view parts.now) }
     requires link { other_link terms.now (view parts.now) ≡ false }
     requires spare { spare_set (view parts.now) ≡ false }
-    requires work { length work.now ≡ 64 }
+    requires work { length (held area.now) ≡ 64 }
     requires room { 1400 ≤ length message.now }
     ensures outcome { outcome result message.new ≡ written (tag_refusal (G.meaning generator.old) terms.now (view parts.now)) message.old (over (opened_message (G.meaning generator.old) terms.now (view parts.now)) message.old) }
+    ensures holds { Holds area.old area.new }
     ensures same { Same (G.meaning generator.old) (G.meaning generator.new) }
 {
     let end = parts.ciphertext.bits.bytes().0;
-    nca5_open(
+    area.nca5_open(
         generator,
-        work,
         &terms.parameters(parts.count),
         terms.tag_size,
         parts.aad,

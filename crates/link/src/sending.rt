@@ -3,7 +3,7 @@ ghost use Rattle.std.specs.Prelude.{◌≡◌, ◌+◌, ◌-◌, ◌^◌, ◌≤
 ghost use Rattle.generator.specs.Generators.{Same};
 ghost use Rattle.cover.specs.Answers.{outcome, written};
 ghost use Rattle.cover.specs.Combined.{too_short_for};
-ghost use Rattle.cover.specs.WorkArea.{wiped};
+ghost use Rattle.cover.specs.WorkArea.{Holds, held, wiped};
 ghost use Rattle.frames.specs.Frames.{frame_length};
 ghost use Rattle.units.specs.Lengths.{filled};
 ghost use Rattle.units.specs.Spare.{cleared};
@@ -12,7 +12,7 @@ ghost use Rattle.link.specs.Settings.{parameters};
 
 use super::refusing::{refuse_if, unfilled};
 use super::settings::Settings;
-use cover::{WORK_AREA, WorkArea, nca5_cover};
+use cover::{WORK_AREA, WorkArea};
 use frames::{AAD_LIMIT, HEAD, MESSAGE_LIMIT, frame_length, head};
 use generator::Generator;
 use nonces::LARGEST_TAG;
@@ -65,7 +65,7 @@ impl<G: Generator> Sender<G> {
         ensures settings { self.new.settings ≡ self.old.settings }
         ensures same { Same (G.meaning self.old.generator) (G.meaning self.new.generator) }
     {
-        let area = WorkArea::new(work);
+        let mut area = WorkArea::new(work);
         refuse_if(area.len() != WORK_AREA, Reason::WorkArea)?;
         refuse_if(
             aad.bits > AAD_LIMIT || message.bits > MESSAGE_LIMIT,
@@ -76,7 +76,7 @@ impl<G: Generator> Sender<G> {
         refuse_if(frame.len() < total.0, Reason::OutputBytes)?;
         refuse_if(self.next > u64::from(u32::MAX), Reason::CountsUsed)?;
         self.write(
-            area.into_bytes(),
+            &mut area,
             self.next as u32,
             aad,
             message,
@@ -91,17 +91,18 @@ impl<G: Generator> Sender<G> {
     #[tactic(auto, unfolding(frames::specs::Frames::frame_length))]
     fn write(
         &mut self,
-        work: &mut [u8],
+        area: &mut WorkArea<'_>,
         count: u32,
         aad: BitString<'_>,
         message: BitString<'_>,
         frame: &mut [u8],
     ) -> Result<(), Refusal>
-        requires work { length work.old ≡ 64 }
+        requires work { length (held area.old) ≡ 64 }
         requires aad { length aad.bytes.now ≡ filled aad.bits.0 }
         requires message { length message.bytes.now ≡ filled message.bits.0 }
         requires frame { length frame.old ≡ frame_length self.old.settings.terms.tag_size aad.bits.0 message.bits.0 }
         ensures outcome { outcome result frame.new ≡ written (too_short_for (G.meaning self.old.generator) (parameters self.old.settings.terms count) self.old.settings.terms.tag_size message.entry.bits.0) frame.old (sealed_frame (G.meaning self.old.generator) self.old.settings.terms count (record { work = 64; aad_bits = aad.entry.bits.0; aad = aad.entry.bytes.now; bits = message.entry.bits.0; message = message.entry.bytes.now; buffer = [] })) }
+        ensures holds { Holds area.old area.new }
         ensures settings { self.new.settings ≡ self.old.settings }
         ensures next { self.new.next ≡ self.old.next }
         ensures same { Same (G.meaning self.old.generator) (G.meaning self.new.generator) }
@@ -111,9 +112,8 @@ impl<G: Generator> Sender<G> {
         let end = text + message.bytes.len();
         let mut tag = [0; LARGEST_TAG as usize];
         let tag = &mut tag[..usize::from(terms.tag_size)];
-        nca5_cover(
+        area.nca5_cover(
             &mut self.generator,
-            work,
             &terms.parameters(count),
             terms.tag_size,
             aad,

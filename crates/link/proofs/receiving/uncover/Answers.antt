@@ -16,6 +16,6 @@ returns-clause-outcome g c =
     let front = take n c.args.message.now in
     let room : length front ≡ filled p.bits = omega (arith, length-take-le n c.args.message.now) in
     let r = c.requires in
-    let tests = tests_left m s p (length c.args.work.now) front r.lawful r.fits r.link r.spare r.work room in
+    let tests = tests_left m s p (length c.args.area.now.bytes.now) front r.lawful r.fits r.link r.spare r.work room in
     let answer : outcome c.nca5_open.result c.nca5_open.new.message ≡ written (tag_refusal m s p) front (opened_message m s p) = cc in
     written_over n _ _ _ _ _ (omega arith) answer

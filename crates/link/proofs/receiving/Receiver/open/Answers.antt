@@ -1,6 +1,6 @@
-use Rattle.std.proofs.Common.{rules, arith}
+use Rattle.std.proofs.Common.{rules}
 use Rattle.frames.specs.Frames.{view}
-use Rattle.link.proofs.OpenLaws.{aad_within, message_within, told_some, written_err}
+use Rattle.link.proofs.OpenLaws.{message_within, told_some, written_err}
 use Rattle.link.proofs.receiving.Receiver.open.Goals as goal
 
 pub returns-in_err-judge-clause-outcome : goal.returns-in_err-judge-clause-outcome
@@ -15,8 +15,3 @@ returns-in_err-uncover-clause-outcome g c =
 
 pub returns-clause-message_within : goal.returns-clause-message_within
 returns-clause-message_within g c = message_within (view c.in_ok-parts.parts) c.uncover.new.message c.in_ok-parts.ensures.fits (search rules)
-
-pub returns-clause-aad_within : goal.returns-clause-aad_within
-returns-clause-aad_within g c =
-    aad_within c.laws.ensures c.args.self.now.settings.terms c.args.frame.now (view c.in_ok-parts.parts) (λ k. omega (arith, c.type_inv.frame k))
-    c.in_ok-parts.ensures.tests c.in_ok-parts.ensures.parts

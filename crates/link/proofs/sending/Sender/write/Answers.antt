@@ -22,7 +22,7 @@ returns-clause-outcome g c =
     let size : length old_tag ≡ settings.terms.tag_size =
     length-take-le c.from.result (replicate {A = ℕ} 16 0) (omega (arith, settings.lawful.largest)) ∙ omega arith
     in
-    frame_written m settings.terms c.args.count _ frame (length c.args.work.now) c.parameters.result old old_tag ciphertext tag c.head-head.result _ c.write_around.new.frame
+    frame_written m settings.terms c.args.count _ frame (length c.args.area.now.bytes.now) c.parameters.result old old_tag ciphertext tag c.head-head.result _ c.write_around.new.frame
     settings.lawful
     c.requires.aad
     c.requires.message

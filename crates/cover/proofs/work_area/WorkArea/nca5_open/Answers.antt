@@ -5,7 +5,7 @@ use Rattle.cover.specs.Keystream.{covered}
 use Rattle.cover.proofs.CallLaws.{reaches}
 use Rattle.cover.proofs.StreamLaws.{covered_same}
 use Rattle.cover.proofs.TagLaws.{tag_same}
-use Rattle.cover.proofs.combined.nca5_open.Goals as goal
+use Rattle.cover.proofs.work_area.WorkArea.nca5_open.Goals as goal
 
 pub returns-in_err-refuse_if-5-clause-outcome : goal.returns-in_err-refuse_if-5-clause-outcome
 returns-in_err-refuse_if-5-clause-outcome g c =

@@ -6,7 +6,7 @@ use Rattle.cover.specs.Tags.{tag_under}
 use Rattle.cover.proofs.CallLaws.{reaches}
 use Rattle.cover.proofs.StreamLaws.{covered_same}
 use Rattle.cover.proofs.TagLaws.{tag_same}
-use Rattle.cover.proofs.combined.nca5_cover.Goals as goal
+use Rattle.cover.proofs.work_area.WorkArea.nca5_cover.Goals as goal
 
 pub returns-clause-outcome : goal.returns-clause-outcome
 returns-clause-outcome g c =
