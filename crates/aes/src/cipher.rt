@@ -37,7 +37,7 @@ impl Aes256 {
     pub fn new(key: &[u8; 32]) -> Aes256
         ensures key { result.key ≡ key.now }
         ensures example { ExampleStands }
-        ensures blocks { EncryptsToBlocks key.now }
+        ensures blocks { EncryptsToBlocks result.key }
     {
         byte_field::laws();
         let words = key_expansion(key);
