@@ -11,6 +11,9 @@
  * docs/RULES.md says, byte for byte, what the calls of these names test, answer and write; here a refusal is answered by its
  * number, and layers have the numbers of enum catsvomi_layer. docs/C.md says how the library is built and linked.
  *
+ * This file needs C99 or a later C: <stddef.h> and <stdint.h>, `static inline`, and `static` in the array of a parameter. In C++ it
+ * needs a compiler that has <stdint.h>, as C++11 asks.
+ *
  * What a call answers
  * -------------------
  *
@@ -28,22 +31,25 @@
  *
  * None of these can be tested, and a call that breaks one may do anything.
  *
- * - No pointer is null, not even one to a buffer of no bytes: give it the address of some byte. - Behind each pointer there are as
- * many bytes as its length says: 32 of `key`, 6 of `extra_iv`, `work_length` of `work`, and so on. No length is above PTRDIFF_MAX.
- * - What a call writes (`work`, each output and `refusal`) has no byte in common with anything else that the call is given. So no
- * message is covered or opened in place. Inputs may share bytes with one another. - While a call runs, nobody else writes what it
- * reads, or reads or writes what it writes.
+ * - No pointer is null, not even one to a buffer of no bytes: give it the address of some byte.
+ * - Behind each pointer there are as many bytes as its length says: 32 of `key`, 6 of `extra_iv`, `work_length` of `work`, and so
+ *   on. No length is above PTRDIFF_MAX.
+ * - `refusal` points at a struct catsvomi_refusal, aligned as the compiler aligns one.
+ * - What a call writes (`work`, each output and `refusal`) is memory that may be written, and has no byte in common with anything
+ *   else that the call is given. So no message is covered or opened in place. Inputs may share bytes with one another.
+ * - While a call runs, nobody else writes what it reads, or reads or writes what it writes.
  *
  * All else may have any value. What is out of its range is refused, and no number or length that is given makes a call go past a
- * buffer. Outputs and work area may hold anything before the call, and need not have been written at all.
+ * buffer. Outputs and work area may hold anything before the call, and need not have been written at all. (That no nonce is used
+ * twice is a duty too, below: no memory is harmed where it is broken, but what was to be kept secret is given away.)
  *
  * Lengths
  * -------
  *
  * A text has a length in bits and one in bytes, which are two arguments. Bits are counted from the most significant bit of byte 0
- * on. N bits fill N / 8 bytes, rounded up: catsvomi_bytes(N). An input and an output have exactly that many bytes; any other
- * number is refused. The bits of the last byte past the length are spare bits. Those of an input are ignored, but that a
- * ciphertext to be opened must have none set; those of an output are written as zero.
+ * on. N bits fill N / 8 bytes, rounded up: catsvomi_bytes(N). An input and an output have exactly that many bytes, and a tag has
+ * exactly `tag_size`; any other number is refused, also a greater one. The bits of the last byte past the length are spare bits.
+ * Those of an input are ignored, except that a ciphertext to be opened must have none set; those of an output are written as zero.
  *
  * The work area
  * -------------
@@ -61,12 +67,15 @@
  * each message under a key a count of its own, also across restarts (docs/INTEGRATING.md says how counts are kept), and take a new
  * key before the counts are used up.
  *
+ * Whoever receives a message calls with the parameters that it was covered with: to uncover it, to open it, or to make the tag of
+ * the text that came. Such a tag is compared and given to nobody: what came may be another text than the one that was sent.
+ *
  * Secrets
  * -------
  *
- * A call keeps nothing for the next one: there is no state, nothing is allocated, and calls on different buffers may run at the
- * same time. Each call expands the key and makes eight blocks before all else, refused or not, which takes about 4,000 cycles.
- * What a call leaves on the stack, round keys among it, is not wiped. It takes about 15 KB of stack.
+ * A call keeps nothing for the next one: there is no state, nothing is allocated, and calls may run at the same time where none
+ * writes what another reads or writes. Each call expands the key and makes eight blocks before all else, refused or not, which
+ * takes about 4,000 cycles. What a call leaves on the stack, round keys among it, is not wiped. It takes about 15 KB of stack.
  *
  * What is proved, and what is not
  * -------------------------------
