@@ -41,15 +41,15 @@ shown w = number_of w.answer ∷ w.output
 abbrev pub both_shown : Covering → List ℕ
 both_shown c = number_of c.answer ∷ (c.ciphertext ++ c.tag)
 
--- a tag of 16 bytes by NIA5 over so many bits
+-- a tag of 16 bytes by NIA5 over so many bits, into FF
 abbrev pub flat_nia5 : ℕ → List ℕ → List ℕ
-flat_nia5 bits text = shown (nia5 flat 64 (parameters 0 0 0) 16 bits text (replicate 16 0))
+flat_nia5 bits text = shown (nia5 flat 64 (parameters 0 0 0) 16 bits text (replicate 16 0xFF))
 
 -- so many bits covered by NCA5 without AAD, with a tag of 4 bytes, into two buffers
 abbrev pub flat_cover : ℕ → List ℕ → List ℕ → List ℕ → List ℕ
 flat_cover bits message ciphertext tag =
     both_shown (nca5_cover flat 64 (parameters 0 0 0) 4 0 [] bits message ciphertext tag)
 
--- 13 bits opened by NCA5 without AAD, with a tag of 4 bytes, into 00 00
+-- 13 bits opened by NCA5 without AAD, with a tag of 4 bytes, into a buffer that holds FF FF before
 abbrev pub flat_open : List ℕ → List ℕ → List ℕ
-flat_open ciphertext tag = shown (nca5_open flat 64 (parameters 0 0 0) 4 0 [] 13 ciphertext tag (0 ∷ 0 ∷ []))
+flat_open ciphertext tag = shown (nca5_open flat 64 (parameters 0 0 0) 4 0 [] 13 ciphertext tag (replicate 2 0xFF))

@@ -1,5 +1,5 @@
 -- A link over the flat keystream, and what a run of it shows.
-use Rattle.std.specs.Prelude.{ℕ, ◌-◌, ◌^◌, List, [], ◌∷◌, ◌++◌, None, Some, Option, replicate, take}
+use Rattle.std.specs.Prelude.{ℕ, ◌-◌, ◌^◌, List, [], ◌∷◌, ◌++◌, None, Some, Option, replicate}
 use Rattle.units.specs.Refusals.{number}
 use Rattle.units.specs.declared.refusals.Refusal.{Refusal}
 use Rattle.windows.specs.Windows.{count_refusal, loss, mark, new_window}
@@ -25,19 +25,23 @@ eight_lost = loss (record { first = 0; highest = Some 100; opened = 2 ^ 64 - 1 -
 abbrev pub flat_terms : Terms
 flat_terms = record { bearer = 5; direction = 0; tag_size = 4; extra_iv = None }
 
--- 13 bits without AAD
+-- 13 bits without AAD, into a frame buffer full of FF
 abbrev pub sealing_13_bits : SealCall
 sealing_13_bits =
-    record { work = 64; aad_bits = 0; aad = []; bits = 13; message = 0xAB ∷ 0xCD ∷ []; buffer = replicate 18 0 }
+    record { work = 64; aad_bits = 0; aad = []; bits = 13; message = 0xAB ∷ 0xCD ∷ []; buffer = replicate 18 0xFF }
 
 -- the frame of them, with the count 0
 abbrev pub frame_of_13_bits : List ℕ
 frame_of_13_bits =
     0x54 ∷ 0x46 ∷ 0x0A ∷ 0x04 ∷ 0 ∷ 0 ∷ 0 ∷ 0 ∷ 0 ∷ 0 ∷ 0 ∷ 13 ∷ 0x54 ∷ 0x30 ∷ 0x59 ∷ 0x30 ∷ 0x00 ∷ 0x00 ∷ []
 
--- the message buffer of an open
+-- the message buffer of an open, full of FF
 abbrev pub room : List ℕ
-room = replicate 1400 0
+room = replicate 1400 0xFF
+
+-- the same once AB C8 was written to it
+abbrev pub room_written : List ℕ
+room_written = 0xAB ∷ 0xC8 ∷ replicate 1398 0xFF
 
 -- a seal; an open of its frame with a bit of the tag changed, one of the frame itself, the same again; and the loss figure
 abbrev pub flat_run : List Event
@@ -50,10 +54,10 @@ flat_run =
     ∷ loss_figure
     ∷ [])
 
--- what a run shows: of each seal the refusal's number or 0, and the frame buffer; of each open that number, and the first two
--- bytes of the message buffer; the loss figure
+-- what a run shows: of each seal the refusal's number or 0, and the frame buffer; of each open that number, and the whole message
+-- buffer; the loss figure
 abbrev pub run_shown : List Event → List ℕ
 run_shown [] = []
 run_shown (sealing e ∷ es) = number_of e.answer ∷ (e.buffer ++ run_shown es)
-run_shown (opening e ∷ es) = number_of e.answer ∷ (take 2 e.buffer ++ run_shown es)
+run_shown (opening e ∷ es) = number_of e.answer ∷ (e.buffer ++ run_shown es)
 run_shown (losing n ∷ es) = n ∷ run_shown es

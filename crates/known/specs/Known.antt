@@ -9,7 +9,7 @@ use Rattle.cover.specs.Combined.{instance_nonce, stream_nonce}
 use Rattle.cover.specs.Encryption.{nea5_nonce}
 use Rattle.cover.specs.Integrity.{nia5_nonce}
 use Rattle.known.specs.Flat.{e_bytes, flat_cover, flat_nia5, flat_open, parameters}
-use Rattle.known.specs.FlatLink.{eight_lost, flat_run, frame_of_13_bits, judged, run_shown}
+use Rattle.known.specs.FlatLink.{eight_lost, flat_run, frame_of_13_bits, judged, room, room_written, run_shown}
 
 -- a value as a definition gives it, beside the value that is known
 pub record Row : Type 0 where
@@ -51,15 +51,15 @@ table =
     ∷ row (take 2 (nonce 16 false false (parameters 31 1 0))) (0x80 ∷ 0x3F ∷ [])
     ∷ row (take 2 (nia5_nonce 16 (parameters 31 1 0))) (0x81 ∷ 0x3F ∷ [])
     ∷ row (flat_nia5 8 (0x80 ∷ [])) (0 ∷ 0x80 ∷ (replicate 7 0 ++ (0x08 ∷ replicate 7 0)))
-    ∷ row (flat_cover 13 (0xAB ∷ 0xCD ∷ []) (replicate 2 0) (replicate 4 0)) (0 ∷ 0x54 ∷ 0x30 ∷ 0x59 ∷ 0x30 ∷ 0x00 ∷ 0x00 ∷ [])
+    ∷ row (flat_cover 13 (0xAB ∷ 0xCD ∷ []) (replicate 2 0xFF) (replicate 4 0xFF)) (0 ∷ 0x54 ∷ 0x30 ∷ 0x59 ∷ 0x30 ∷ 0x00 ∷ 0x00 ∷ [])
     ∷ row (flat_open (0x54 ∷ 0x30 ∷ []) (0x59 ∷ 0x30 ∷ 0x00 ∷ 0x00 ∷ [])) (0 ∷ 0xAB ∷ 0xC8 ∷ [])
-    ∷ row (flat_open (0x54 ∷ 0x30 ∷ []) (0x59 ∷ 0x30 ∷ 0x00 ∷ 0x01 ∷ [])) (14 ∷ 0x00 ∷ 0x00 ∷ [])
+    ∷ row (flat_open (0x54 ∷ 0x30 ∷ []) (0x59 ∷ 0x30 ∷ 0x00 ∷ 0x01 ∷ [])) (14 ∷ replicate 2 0xFF)
     ∷ row (flat_open (0x55 ∷ 0x30 ∷ []) (0x58 ∷ 0x30 ∷ 0x00 ∷ 0x00 ∷ [])) (0 ∷ 0xAA ∷ 0xC8 ∷ [])
     ∷ row (flat_cover 0 [] [] (replicate 4 0xFF)) (0 ∷ 0x00 ∷ 0x00 ∷ 0x00 ∷ 0x00 ∷ [])
     ∷ row (judged 37 ∷ []) (0 ∷ [])
     ∷ row (judged 36 ∷ []) (11 ∷ [])
     ∷ row (eight_lost ∷ []) (13 ∷ [])
-    ∷ row (run_shown flat_run) (0 ∷ (frame_of_13_bits ++ (14 ∷ 0 ∷ 0 ∷ 0 ∷ 0xAB ∷ 0xC8 ∷ 12 ∷ 0 ∷ 0 ∷ 0 ∷ [])))
+    ∷ row (run_shown flat_run) (0 ∷ (frame_of_13_bits ++ (14 ∷ room ++ (0 ∷ room_written ++ (12 ∷ room ++ (0 ∷ []))))))
     ∷ []
 
 -- the table holds
