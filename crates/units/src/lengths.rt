@@ -1,5 +1,7 @@
-//! Lengths in bits and lengths in bytes, as two types: a call that takes one cannot be handed the other.
-//! The only way from one to the other is `Bits::bytes`.
+//! Lengths in bits and lengths in bytes, as two types, so that a call that takes one is not handed the other by mistake.
+//!
+//! `Bits::bytes` is the conversion that has a contract. The fields are public, so that callers can make lengths and read
+//! them: nothing keeps a caller from making a length of one type with the number of one of the other.
 ghost use Rattle.std.specs.Prelude.{◌≡◌, ℕ, ◌+◌, ◌*◌, ◌<◌, ◌≤◌};
 ghost use Rattle.units.specs.Lengths.{begun, filled, split};
 
