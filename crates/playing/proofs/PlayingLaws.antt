@@ -1,5 +1,5 @@
 -- What is played back of a recording.
-use Rattle.std.proofs.Common.{◌≡◌, ℕ, zero, suc, ◌+◌, ◌<◌, ◌≤◌, Bool, true, false, ◌&&◌, cond, ltb, nat_eq, subst, List, [], ◌∷◌, ◌++◌, map, length, get_or, Some, None, sym, refl, ap, ◌∙◌, append-nil, arith}
+use Rattle.std.proofs.Common.{◌≡◌, ℕ, zero, suc, ◌+◌, ◌<◌, ◌≤◌, Bool, true, false, ◌&&◌, cond, ltb, nat_eq, subst, List, [], ◌∷◌, ◌++◌, map, length, get_or, sym, refl, ap, ◌∙◌, append-nil, arith}
 use lib.Pointwise.{pointwise}
 use Rattle.std.specs.List.{flat_map, AllByRecursion, Contains}
 use Rattle.std.proofs.lemmas.List.Elements.{Contains-append_right}
@@ -7,11 +7,8 @@ use Rattle.std.proofs.lemmas.Bool.Decides.{nat_tests}
 use Rattle.units.specs.Strings.{Octets, same, two}
 use Rattle.units.proofs.StringLaws.{Octets-append_front, Octets-append_rest, same_tells}
 use Rattle.generator.specs.Generators.{Sound}
-use Rattle.recording.specs.Reading.{ahead, placed, records, up_to}
-use Rattle.recording.specs.Records.{Entry, Begins, first, keystream, keystream_mark, remark, written}
-use Rattle.recording.proofs.CheckingLaws.{run_records}
-use Rattle.recording.proofs.ReadingLaws.{Found}
-use Rattle.recording.proofs.RecordLaws.{first_there}
+use Rattle.recording.specs.Reading.{RecordingStands, Run, ahead, placed, records}
+use Rattle.recording.specs.Records.{Entry, WellFormed, NoRecord, keystream, keystream_mark, remark, written}
 use Rattle.playing.specs.Playing.{PlaybackStands, blocks_under, played, readable}
 
 -- ---- the blocks are sound
@@ -35,48 +32,45 @@ each_octets [] o i = λ k. omega arith
 each_octets (b ∷ blocks) o zero = Octets-append_front b (flat_map (λ block. block) blocks) o
 each_octets (b ∷ blocks) o (suc i) = each_octets blocks (Octets-append_rest (b ++ flat_map (λ block. block) blocks) b (flat_map (λ block. block) blocks) o refl) i
 
-sound_keystream : (nonce : List ℕ) (blocks : List (List ℕ)) (rest xs : List ℕ) → Octets xs → Begins (keystream nonce blocks) rest xs → SoundBlocks blocks
-sound_keystream nonce blocks rest xs o there =
+sound_keystream : (nonce : List ℕ) (blocks : List (List ℕ)) → WellFormed (keystream nonce blocks) → Octets (written (keystream nonce blocks)) → SoundBlocks blocks
+sound_keystream nonce blocks formed o =
     let all = flat_map (λ block. block) blocks in
     let counted = two (length blocks) ++ all in
-    let whole : Octets (keystream_mark ++ (nonce ++ counted)) = Octets-append_front (written (keystream nonce blocks)) rest (subst Octets there.parts o) in
-    let body = Octets-append_rest (keystream_mark ++ (nonce ++ counted)) keystream_mark (nonce ++ counted) whole refl in
+    let body = Octets-append_rest (keystream_mark ++ (nonce ++ counted)) keystream_mark (nonce ++ counted) o refl in
     let flat = Octets-append_rest counted (two (length blocks)) all (Octets-append_rest (nonce ++ counted) nonce counted body refl) refl in
-    record { few = there.formed.2; sixteen = each_sixteen blocks there.formed.3; octets = each_octets blocks flat }
+    record { few = formed.2; sixteen = each_sixteen blocks formed.3; octets = each_octets blocks flat }
 
 SoundBlocks-cond : (b : Bool) (xs ys : List (List ℕ)) → SoundBlocks xs → SoundBlocks ys → SoundBlocks (cond b xs ys)
 SoundBlocks-cond true xs ys s t = s
 SoundBlocks-cond false xs ys s t = t
 
-sound_up_to : (n : List ℕ) (m : ℕ) (xs : List ℕ) → Octets xs → SoundBlocks (blocks_under n (up_to m xs))
-sound_up_to n zero xs o = no_blocks
-sound_up_to n (suc m) xs o = go (sound_up_to n m) (first xs) refl
-  where
-    behind : (e : Entry) (rest : List ℕ) (es : List Entry) → Begins e rest xs → SoundBlocks (blocks_under n es) → SoundBlocks (blocks_under n (e ∷ es))
-    behind (keystream nonce blocks) rest es there s = SoundBlocks-cond (same nonce n) blocks (blocks_under n es) (sound_keystream nonce blocks rest xs o there) s
-    behind (remark text) rest es there s = s
+-- the blocks of well-formed records that are bytes when they are written out
+sound_records : (n : List ℕ) (es : List Entry) → AllByRecursion WellFormed es → Octets (flat_map written es) → SoundBlocks (blocks_under n es)
+sound_records n [] formed o = no_blocks
+sound_records n (keystream nonce blocks ∷ es) formed o =
+    let e = keystream nonce blocks in
+    let later = Octets-append_rest (written e ++ flat_map written es) (written e) (flat_map written es) o refl in
+    SoundBlocks-cond (same nonce n) blocks (blocks_under n es)
+    (sound_keystream nonce blocks formed.0 (Octets-append_front (written e) (flat_map written es) o)) (sound_records n es formed.1 later)
+sound_records n (remark text ∷ es) formed o =
+    let e = remark text in
+    sound_records n es formed.1 (Octets-append_rest (written e ++ flat_map written es) (written e) (flat_map written es) o refl)
 
-    go : ((ys : List ℕ) → Octets ys → SoundBlocks (blocks_under n (up_to m ys))) → (r : Found) → first xs ≡ r
-        → SoundBlocks (blocks_under n (elim r [ Some p ↦ p.0 ∷ up_to m p.1 | None ↦ [] ]))
-    go again None e = no_blocks
-    go again (Some p) e =
-        let there = first_there xs p o e in
-        behind p.0 p.1 (up_to m p.1) there (again p.1 (Octets-append_rest xs (written p.0) p.1 o there.parts))
-
-sound_readable : (n xs : List ℕ) → Octets xs → SoundBlocks (blocks_under n (readable xs))
-unfolding records
-sound_readable n xs o = go (ltb 65536 (length xs))
+sound_readable : RecordingStands → (n xs : List ℕ) → Octets xs → SoundBlocks (blocks_under n (readable xs))
+sound_readable stands n xs o = go (ltb 65536 (length xs))
   where
     go : (b : Bool) → SoundBlocks (blocks_under n (cond b [] (records xs)))
     go true = no_blocks
-    go false = sound_up_to n (length xs) xs o
+    go false =
+        let run = stands.every xs o in
+        sound_records n (records xs) run.formed (Octets-append_front (flat_map written (records xs)) run.rest (subst Octets run.parts o))
 
-pub sound : (xs : List ℕ) → Octets xs → Sound (played xs)
-sound xs o =
+pub sound : RecordingStands → (xs : List ℕ) → Octets xs → Sound (played xs)
+sound stands xs o =
     record {
-      near = λ n. omega (arith, (sound_readable n xs o).few);
-      sixteen = λ n i h. (sound_readable n xs o).sixteen i h;
-      octets = λ n i h. (sound_readable n xs o).octets i;
+      near = λ n. omega (arith, (sound_readable stands n xs o).few);
+      sixteen = λ n i h. (sound_readable stands n xs o).sixteen i h;
+      octets = λ n i h. (sound_readable stands n xs o).octets i;
     }
 
 -- ---- the reading for a nonce
@@ -139,10 +133,22 @@ past n (keystream nonce blocks ∷ es) later h =
     go true e rest = absurd (h blocks (0, omega arith, ap (λ (m : List ℕ). keystream m blocks) ((same_tells nonce n).0 e)))
     go false e rest = rest
 
-pub playback_stands : PlaybackStands
-playback_stands =
+-- of records and then a rest with which no record begins, each is played
+played_run : RecordingStands → (es : List Entry) (xs : List ℕ) (run : Run es xs) → Octets run.rest → length xs ≤ 65536 → readable xs ≡ es
+played_run stands es xs run o h = let all = stands.only es xs run o in grind (arith, nat_tests)
+
+-- no record begins where there are no bytes
+no_record : NoRecord []
+no_record (keystream nonce blocks) later there = let parts = there.parts in absurd (cc)
+no_record (remark text) later there = let parts = there.parts in absurd (cc)
+
+pub playback_stands : RecordingStands → PlaybackStands
+playback_stands stands =
     record {
-      whole = λ es formed h. let all = run_records (flat_map written es) es formed refl in grind (arith, nat_tests, all);
+      damaged = λ es rest formed o none h. played_run stands es (flat_map written es ++ rest) record { formed = formed; rest = rest; parts = refl; none = none } o h;
+      whole = λ es formed h.
+          played_run stands es (flat_map written es) record { formed = formed; rest = []; parts = sym (append-nil (flat_map written es)); none = no_record } (λ k. omega arith) h;
+      long = λ xs h. grind (arith, nat_tests);
       first = λ n blocks es later h.
           past n es (keystream n blocks ∷ later) h
           ∙ ap (λ (b : Bool). cond b blocks (blocks_under n later)) ((same_tells n n).1 refl);

@@ -1,10 +1,10 @@
 -- Playing a recording back.
-use Rattle.std.specs.Prelude.{◌≡◌, ℕ, ◌≤◌, cond, List, [], ◌∷◌, ◌++◌, length, nat_lt, slice_index_or}
+use Rattle.std.specs.Prelude.{◌≡◌, ℕ, ◌<◌, ◌≤◌, cond, List, [], ◌∷◌, ◌++◌, length, nat_lt, slice_index_or}
 use Rattle.std.specs.List.{flat_map, AllByRecursion, Contains}
-use Rattle.units.specs.Strings.{same}
+use Rattle.units.specs.Strings.{Octets, same}
 use Rattle.generator.specs.Generators.{Meaning}
 use Rattle.recording.specs.Reading.{records}
-use Rattle.recording.specs.Records.{Entry, WellFormed, keystream, remark, written}
+use Rattle.recording.specs.Records.{Entry, WellFormed, NoRecord, keystream, remark, written}
 
 -- the records of a recording before the first fault; none where it has more than 65,536 bytes
 abbrev pub readable : List ℕ → List Entry
@@ -26,8 +26,12 @@ played xs =
 
 -- what holds of every playback
 pub record PlaybackStands : Type 0 where
-  -- of records that are written one after another, each is played
+  -- of records that are written one after another, and then bytes with which no record begins, each record is played
+  pub damaged : (es : List Entry) (rest : List ℕ) → AllByRecursion WellFormed es → Octets rest → NoRecord rest → length (flat_map written es ++ rest) ≤ 65536 → readable (flat_map written es ++ rest) ≡ es
+  -- so of records alone each is played
   pub whole : (es : List Entry) → AllByRecursion WellFormed es → length (flat_map written es) ≤ 65536 → readable (flat_map written es) ≡ es
+  -- of more than 65,536 bytes none is played
+  pub long : (xs : List ℕ) → 65536 < length xs → readable xs ≡ []
   -- the first keystream record with a nonce decides, whatever comes later
   pub first : (n : List ℕ) (blocks : List (List ℕ)) (es later : List Entry) → ((bs : List (List ℕ)) → ¬ Contains es (keystream n bs)) → blocks_under n (es ++ (keystream n blocks ∷ later)) ≡ blocks
   -- where there is none, there are no blocks

@@ -13,7 +13,8 @@ use recording::{Reader, Record};
 use units::Refusal;
 
 /// A recording played back. Under a nonce it has the blocks of the first keystream record with that nonce, among the
-/// records before the first fault; it has none where there is no such record, or the recording is too long.
+/// records before the first fault; it has none where there is no such record, or the recording is too long. Recorded
+/// keystream is secret, so it has neither `Debug` nor equality.
 #[derive(Clone, Copy)]
 pub struct Playback<'a> {
     bytes: &'a [u8],
@@ -25,11 +26,11 @@ pub struct Playback<'a> {
 
 impl<'a> Playback<'a> {
     /// The playback of recorded bytes.
-    #[tactic(auto, using(crate::proofs::PlayingLaws::playback_stands))]
     pub fn new(bytes: &'a [u8]) -> Playback<'a>
         ensures bytes { result.bytes ≡ bytes.entry }
         ensures stands { PlaybackStands }
     {
+        recording::laws();
         Playback { bytes, last: None }
     }
 

@@ -1,16 +1,16 @@
 -- Where the records of a recording end, and what the verdict says.
-use Rattle.std.proofs.Common.{◌≡◌, ℕ, zero, suc, ◌+◌, ◌≤◌, true, List, [], ◌∷◌, ◌++◌, length, drop, is_ok, Some, None, Ok, Err, Decides, Result, sym, refl, ap, ◌∙◌, append_assoc, append-nil, arith, length-append}
+use Rattle.std.proofs.Common.{◌≡◌, ◌↔◌, ℕ, ◌+◌, ◌≤◌, true, false, Bool, cond, ltb, nat_eq, List, [], ◌++◌, length, drop, is_ok, Some, None, Ok, Err, Decides, Result, sym, subst, refl, ap, ◌∙◌, append-nil, arith, length-append}
 use Rattle.std.proofs.lemmas.List.{drop_all, nil_from_length}
 use Rattle.std.proofs.lemmas.Bool.Decides.{Decides-at, nat_tests}
-use Rattle.std.specs.List.{flat_map, AllByRecursion}
+use Rattle.std.specs.List.{flat_map}
 use Rattle.units.specs.Strings.{Octets}
 use Rattle.units.proofs.StringLaws.{Octets-append_rest}
 use Rattle.units.specs.declared.refusals.Refusal.{Refusal}
-use Rattle.recording.specs.Checking.{Sound, checked, end}
-use Rattle.recording.specs.Reading.{Moved, records, step, stepped, up_to}
-use Rattle.recording.specs.Records.{Entry, WellFormed, Begins, first, written}
-use Rattle.recording.proofs.ReadingLaws.{Found, records_none, records_some}
-use Rattle.recording.proofs.RecordLaws.{first_there}
+use Rattle.recording.specs.Checking.{FirstFault, Refuses, Sound, checked, end}
+use Rattle.recording.specs.Reading.{Moved, Run, fault, records, step, stepped}
+use Rattle.recording.specs.Records.{Entry, Begins, first, written}
+use Rattle.recording.proofs.ReadingLaws.{Found, records_none, records_some, recording_stands}
+use Rattle.recording.proofs.RecordLaws.{found_faithful}
 
 pub end_some : (xs : List ℕ) (e : Entry) (rest : List ℕ) → Begins e rest xs → end xs ≡ length (written e) + end rest
 unfolding end
@@ -50,64 +50,85 @@ faulted xs at to why r e = go (first (drop at xs)) refl
 
 -- ---- what the verdict says
 
--- the entries es are well-formed, and xs begins with them
-record Front (es : List Entry) (xs : List ℕ) : Type 0 where
-  formed : AllByRecursion WellFormed es
-  rest : List ℕ
-  parts : xs ≡ flat_map written es ++ rest
+-- bytes are their records and a rest with which no record begins, and the rest begins where the records end
+ends : (xs : List ℕ) (o : Octets xs) → end xs + length (recording_stands.every xs o).rest ≡ length xs
+unfolding end
+ends xs o =
+    let run = recording_stands.every xs o in
+    sym (ap length run.parts ∙ length-append (flat_map written (records xs)) run.rest)
 
-front : (n : ℕ) (xs : List ℕ) → Octets xs → Front (up_to n xs) xs
-front zero xs o = record { formed = tt; rest = xs; parts = refl }
-front (suc n) xs o = go (front n) (first xs) refl
-  where
-    go : ((ys : List ℕ) → Octets ys → Front (up_to n ys) ys) → (r : Found) → first xs ≡ r → Front (elim r [ Some p ↦ p.0 ∷ up_to n p.1 | None ↦ [] ]) xs
-    go again (Some p) e =
-        let there = first_there xs p o e in
-        let later = again p.1 (Octets-append_rest xs (written p.0) p.1 o there.parts) in
-        record {
-          formed = (there.formed, later.formed);
-          rest = later.rest;
-          parts = there.parts ∙ ap (λ (l : List ℕ). written p.0 ++ l) later.parts ∙ sym (append_assoc (written p.0) (flat_map written (up_to n p.1)) later.rest);
-        }
-    go again None e = record { formed = tt; rest = xs; parts = refl }
+end_is : (xs : List ℕ) → end xs ≡ length (flat_map written (records xs))
+unfolding end
+end_is xs = refl
 
-pub run_records : (xs : List ℕ) (es : List Entry) → AllByRecursion WellFormed es → xs ≡ flat_map written es → records xs ≡ es
-run_records xs [] w e = ap records e ∙ records_none [] refl
-run_records xs (a ∷ es) w e =
-    records_some xs a (flat_map written es) record { formed = w.0; parts = e }
-    ∙ ap (λ (l : List Entry). a ∷ l) (run_records (flat_map written es) es w.1 refl)
+-- the records of bytes that are such a run
+run_end : (es : List Entry) (xs : List ℕ) → Run es xs → Octets xs → end xs ≡ length (flat_map written es)
+unfolding end
+run_end es xs run o = ap (λ (l : List Entry). length (flat_map written l)) (recording_stands.only es xs run (Octets-append_rest xs (flat_map written es) run.rest o run.parts))
 
 -- the records of an accepted recording, written out again
 whole : (xs : List ℕ) → Octets xs → is_ok (checked xs) ≡ true → flat_map written (records xs) ≡ xs
-unfolding end records
 whole xs o h =
-    let f = front (length xs) xs o in
-    let ends : end xs ≡ length xs = grind (arith, nat_tests) in
-    let none = nil_from_length f.rest (omega (arith, ap length f.parts, length-append (flat_map written (records xs)) f.rest)) in
-    sym (f.parts ∙ ap (λ (l : List ℕ). flat_map written (records xs) ++ l) none ∙ append-nil (flat_map written (records xs)))
+    let run = recording_stands.every xs o in
+    let all : end xs ≡ length xs = grind (arith, nat_tests) in
+    let none = nil_from_length run.rest (omega (arith, ends xs o)) in
+    sym (run.parts ∙ ap (λ (l : List ℕ). flat_map written (records xs) ++ l) none ∙ append-nil (flat_map written (records xs)))
 
 sound : (xs : List ℕ) → Octets xs → Decides (is_ok (checked xs)) (Sound xs)
-unfolding end records
 sound xs o = (
   λ h.
       record {
         short = grind (arith, nat_tests);
         entries = records xs;
-        formed = (front (length xs) xs o).formed;
+        formed = (recording_stands.every xs o).formed;
         run = sym (whole xs o h);
       },
   λ s.
       let short = s.short in
-      let ends : end xs ≡ length xs = ap (λ (l : List Entry). length (flat_map written l)) (run_records xs s.entries s.formed s.run) ∙ ap length (sym s.run) in
+      let run : Run s.entries xs = record { formed = s.formed; rest = []; parts = s.run ∙ sym (append-nil (flat_map written s.entries)); none = found_faithful [] None (λ k. omega arith) refl } in
+      let all : end xs ≡ length xs = run_end s.entries xs run o ∙ ap length (sym s.run) in
       grind (arith, nat_tests),
 )
 
+-- the places of two refusals that are the same
+same_place : (a b : ℕ) → ◌≡◌ {A = Result (Unit {0}) Refusal} (Err (fault a)) (Err (fault b)) → a ≡ b
+same_place a b e = ap (λ (verdict : Result (Unit {0}) Refusal). elim verdict [ Ok u ↦ 0 | Err why ↦ why.place ]) e
+
+faults : (xs : List ℕ) → Octets xs → length xs ≤ 65536 → (at : ℕ) → (checked xs ≡ Err (fault at)) ↔ FirstFault xs at
+faults xs o short at = (
+  λ h.
+      let there : at ≡ end xs = grind (arith, nat_tests, same_place) in
+      record {
+        entries = records xs;
+        run = recording_stands.every xs o;
+        place = there ∙ end_is xs;
+        more = grind (arith, nat_tests, ends xs o);
+      },
+  λ f.
+      let there : end xs ≡ at = run_end f.entries xs f.run o ∙ sym f.place in
+      let more = f.more in
+      grind (arith, nat_tests),
+)
+
+-- a refusal is a fault at a place
+kind : (xs : List ℕ) (why : Refusal) → checked xs ≡ Err why → why ≡ fault why.place
+kind xs why e = go (ltb 65536 (length xs)) (nat_eq (end xs) (length xs)) e
+  where
+    go : (a b : Bool) → ◌≡◌ {A = Result (Unit {0}) Refusal} (cond a (Err (fault 65536)) (cond b (Ok tt) (Err (fault (end xs))))) (Err why) → why ≡ fault why.place
+    go true b h = cc
+    go false true h = cc
+    go false false h = cc
+
+refuses : (xs : List ℕ) → Octets xs → Refuses xs (checked xs)
+refuses xs o = record { kind = kind xs; long = λ h. grind (arith, nat_tests); first = faults xs o }
+
 -- what `check` promises of an answer that is the verdict
 pub told : (xs : List ℕ) (answer : Result (Unit {0}) Refusal) → Octets xs → answer ≡ checked xs
-    → record { value : answer ≡ checked xs; exact : Decides (is_ok answer) (Sound xs); rewritten : is_ok answer ≡ true → flat_map written (records xs) ≡ xs }
+    → record { value : answer ≡ checked xs; exact : Decides (is_ok answer) (Sound xs); refuses : Refuses xs answer; rewritten : is_ok answer ≡ true → flat_map written (records xs) ≡ xs }
 told xs answer o e =
     record {
       value = e;
       exact = Decides-at (is_ok answer) (is_ok (checked xs)) (ap is_ok e) (sound xs o);
+      refuses = subst (Refuses xs) (sym e) (refuses xs o);
       rewritten = λ h. whole xs o (ap is_ok (sym e) ∙ h);
     }

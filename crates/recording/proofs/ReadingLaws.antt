@@ -1,13 +1,17 @@
 -- The records of a recording, one after the other, and what a step of the reading leaves.
-use Rattle.std.proofs.Common.{◌≡◌, ℕ, zero, suc, ◌+◌, ◌-◌, ◌<◌, ◌≤◌, List, [], ◌∷◌, length, drop, Some, None, Ok, Err, Option, Result, refl, ap, ◌∙◌, arith, length-append, length-drop, drop-drop, drop_at}
+use Rattle.std.proofs.Common.{◌≡◌, ℕ, zero, suc, ◌+◌, ◌-◌, ◌<◌, ◌≤◌, List, [], ◌∷◌, ◌++◌, length, drop, Some, None, Ok, Err, Option, Result, sym, refl, ap, ◌∙◌, arith, append_assoc, length-append, length-drop, drop-drop, drop_at}
 use Rattle.std.proofs.lemmas.List.{drop_all, nil_from_length}
 use Rattle.std.proofs.lemmas.Bool.Decides.{nat_tests}
+use Rattle.std.specs.List.{flat_map, AllByRecursion}
+use Rattle.units.specs.Strings.{Octets}
+use Rattle.units.proofs.StringLaws.{Octets-append_rest}
 use Rattle.units.specs.declared.refusals.Refusal.{Refusal}
-use Rattle.recording.specs.Reading.{Moved, ahead, answered, placed, records, step, stepped, up_to}
-use Rattle.recording.specs.Records.{Entry, Begins, first, written}
+use Rattle.recording.specs.Reading.{Moved, RecordingStands, Run, ahead, answered, placed, records, step, stepped, up_to}
+use Rattle.recording.specs.Records.{Entry, WellFormed, Begins, NoRecord, first, written}
 use Rattle.recording.specs.declared.records.Record.{Record}
-use Rattle.recording.proofs.RecordLaws.{first_shorter, there_first}
+use Rattle.recording.proofs.RecordLaws.{first_none, first_shorter, first_there, found_faithful, there_first}
 
+-- what is found at the front of some bytes
 abbrev pub Found : Type 0
 Found = Option (Entry × List ℕ)
 
@@ -37,6 +41,40 @@ unfolding records
 records_none xs none =
     up_to_same (length xs) (suc (length xs)) xs (omega arith) (omega arith)
     ∙ ap (λ (r : Found). elim r [ Some p ↦ p.0 ∷ up_to (length xs) p.1 | None ↦ [] ]) none
+
+-- ---- what the records of bytes are
+
+up_to_run : (n : ℕ) (xs : List ℕ) → length xs ≤ n → Octets xs → Run (up_to n xs) xs
+up_to_run zero xs h o = let none = nil_from_length xs (omega arith) in record { formed = tt; rest = xs; parts = refl; none = rw none (found_faithful [] None (rw none at o) refl) }
+up_to_run (suc n) xs h o = go (λ ys less. up_to_run n ys (omega arith)) (first xs) refl
+  where
+    go : ((ys : List ℕ) → length ys < length xs → Octets ys → Run (up_to n ys) ys) → (r : Found) → first xs ≡ r
+        → Run (elim r [ Some p ↦ p.0 ∷ up_to n p.1 | None ↦ [] ]) xs
+    go again (Some p) e =
+        let there = first_there xs p o e in
+        let later = again p.1 (first_shorter xs p.0 p.1 e) (Octets-append_rest xs (written p.0) p.1 o there.parts) in
+        record {
+          formed = (there.formed, later.formed);
+          rest = later.rest;
+          parts = there.parts ∙ ap (λ (l : List ℕ). written p.0 ++ l) later.parts ∙ sym (append_assoc (written p.0) (flat_map written (up_to n p.1)) later.rest);
+          none = later.none;
+        }
+    go again None e = record { formed = tt; rest = xs; parts = refl; none = found_faithful xs None o (sym e) }
+
+run_records : (es : List Entry) (rest : List ℕ) → AllByRecursion WellFormed es → NoRecord rest → Octets rest → records (flat_map written es ++ rest) ≡ es
+run_records [] rest w none o = records_none rest (first_none rest o none)
+run_records (a ∷ es) rest w none o =
+    let parts = append_assoc (written a) (flat_map written es) rest in
+    records_some (flat_map written (a ∷ es) ++ rest) a (flat_map written es ++ rest) record { formed = w.0; parts = parts }
+    ∙ ap (λ (l : List Entry). a ∷ l) (run_records es rest w.1 none o)
+
+pub recording_stands : RecordingStands
+unfolding records
+recording_stands =
+    record {
+      every = λ xs o. up_to_run (length xs) xs (omega arith) o;
+      only = λ es xs run o. ap records run.parts ∙ run_records es run.rest run.formed run.none o;
+    }
 
 -- the reading moves over the record that stands at its offset
 pub moved : (xs : List ℕ) (at : ℕ) (e : Entry) (rest : List ℕ) → at ≤ length xs → Begins e rest (drop at xs) → Moved xs at (length xs - length rest) e

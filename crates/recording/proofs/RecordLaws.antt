@@ -8,7 +8,7 @@ use Rattle.std.specs.List.{flat_map, AllByRecursion}
 use Rattle.std.specs.Simd.{first_chunks}
 use Rattle.units.specs.Strings.{Octets, same, two, two_at}
 use Rattle.units.proofs.StringLaws.{length_two, Octets-drop, same_tells, two_again, two_read}
-use Rattle.recording.specs.Records.{Entry, keystream, remark, keystream_mark, remark_mark, written, WellFormed, Begins, Faithful, first, first_keystream, first_remark}
+use Rattle.recording.specs.Records.{Entry, keystream, remark, keystream_mark, remark_mark, written, WellFormed, Begins, NoRecord, Faithful, first, first_keystream, first_remark}
 
 -- ---- what the code cuts out
 
@@ -151,3 +151,11 @@ found_faithful xs None o e = λ entry rest there.
     let here : first xs ≡ Some (entry, rest) = ap first there.parts ∙ there_first entry rest there.formed in
     absurd cc
 found_faithful xs (Some p) o e = first_there xs p o (sym e)
+
+-- where no record begins, none is found
+pub first_none : (xs : List ℕ) → Octets xs → NoRecord xs → first xs ≡ None
+first_none xs o none = go (first xs) refl
+  where
+    go : (found : Option (Entry × List ℕ)) → first xs ≡ found → first xs ≡ None
+    go None e = e
+    go (Some p) e = absurd (none p.0 p.1 (first_there xs p o e))

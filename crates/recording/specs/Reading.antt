@@ -1,12 +1,14 @@
 -- Reading a recording record by record.
 use Rattle.std.specs.Prelude.{◌≡◌, ℕ, zero, suc, ◌+◌, ◌-◌, ◌≤◌, cond, List, [], ◌∷◌, ◌++◌, length, drop, Some, None, Ok, Err, Option, Result, ◌==◌, nat_lt}
 use Rattle.std.specs.Option.{option_map}
+use Rattle.std.specs.List.{flat_map, AllByRecursion}
 use Rattle.units.specs.Refusals.{refusal}
+use Rattle.units.specs.Strings.{Octets}
 use Rattle.units.specs.declared.refusals.Layer.TheVariants.{Recording}
 use Rattle.units.specs.declared.refusals.Reason.TheVariants.{FaultyRecording}
 use Rattle.units.specs.declared.refusals.Refusal.{Refusal}
 use Rattle.recording.specs.declared.records.Record.{Record}
-use Rattle.recording.specs.Records.{Entry, WellFormed, Begins, entry, first, written}
+use Rattle.recording.specs.Records.{Entry, WellFormed, NoRecord, entry, first, written}
 
 -- the first n records of xs, or those before the first fault
 abbrev pub up_to : ℕ → List ℕ → List Entry
@@ -16,6 +18,24 @@ up_to (suc n) xs = elim (first xs) [ Some p ↦ p.0 ∷ up_to n p.1 | None ↦ [
 -- the records of xs, or those before the first fault; a record has at least one byte
 unfoldable pub records : List ℕ → List Entry
 records xs = up_to (length xs) xs
+
+-- the bytes xs are the records es, one after another, up to bytes that begin with no record
+pub record Run (es : List Entry) (xs : List ℕ) : Type 0 where
+  -- each record is well-formed
+  pub formed : AllByRecursion WellFormed es
+  -- the bytes behind the last record, perhaps none
+  pub rest : List ℕ
+  -- the bytes are the records written out, and the rest
+  pub parts : xs ≡ flat_map written es ++ rest
+  -- the rest begins with no record
+  pub none : NoRecord rest
+
+-- what holds of the records of every byte string
+pub record RecordingStands : Type 0 where
+  -- every byte string is such a run of its records
+  pub every : (xs : List ℕ) → Octets xs → Run (records xs) xs
+  -- and of no others
+  pub only : (es : List Entry) (xs : List ℕ) (run : Run es xs) → Octets run.rest → records xs ≡ es
 
 -- 15: a fault of the recording at a place
 abbrev pub fault : ℕ → Refusal
@@ -58,7 +78,7 @@ pub record Moved (xs : List ℕ) (from to : ℕ) (e : Entry) : Type 0 where
 abbrev pub Lawful : List ℕ → ℕ → Result (Option Entry) Refusal → ℕ → Type 0
 Lawful xs from (Ok (Some e)) to = Moved xs from to e
 Lawful xs from (Ok None) to = (from ≡ length xs) × (to ≡ from)
-Lawful xs from (Err r) to = (to ≡ from) × (length xs ≤ 65536 → (e : Entry) (rest : List ℕ) → Begins e rest (drop from xs) → ⊥)
+Lawful xs from (Err r) to = (to ≡ from) × (length xs ≤ 65536 → NoRecord (drop from xs))
 
 -- each record with its offset, where the first stands at the offset `at`
 abbrev pub placed : ℕ → List Entry → List (ℕ × Entry)

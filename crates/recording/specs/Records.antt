@@ -33,6 +33,10 @@ pub record Begins (e : Entry) (rest xs : List ℕ) : Type 0 where
   pub formed : WellFormed e
   pub parts : xs ≡ written e ++ rest
 
+-- the bytes xs begin with no record, as where there are none
+abbrev pub NoRecord : List ℕ → Type 0
+NoRecord xs = (e : Entry) (rest : List ℕ) → Begins e rest xs → ⊥
+
 -- a keystream record and the rest, from the bytes after the mark: nonce, block count, blocks
 abbrev pub first_keystream : List ℕ → Option (Entry × List ℕ)
 first_keystream xs =
@@ -55,7 +59,7 @@ first xs =
 
 -- what was found at the front of xs is there, and where nothing was found, no record is there
 abbrev pub Faithful : List ℕ → Option (Entry × List ℕ) → Type 0
-Faithful xs None = (e : Entry) (rest : List ℕ) → Begins e rest xs → ⊥
+Faithful xs None = NoRecord xs
 Faithful xs (Some p) = Begins p.0 p.1 xs
 
 -- a record of the code by what it holds

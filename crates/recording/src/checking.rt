@@ -1,7 +1,7 @@
 //! The check of a whole recording.
 ghost use Rattle.std.specs.Prelude.{◌≡◌, true, is_ok, Decides};
 ghost use Rattle.std.specs.List.{flat_map};
-ghost use Rattle.recording.specs.Checking.{Sound, checked};
+ghost use Rattle.recording.specs.Checking.{Refuses, Sound, checked};
 ghost use Rattle.recording.specs.Reading.{records};
 ghost use Rattle.recording.specs.Records.{written};
 
@@ -12,6 +12,7 @@ use units::Refusal;
 pub fn check(bytes: &[u8]) -> Result<(), Refusal>
     ensures value { result ≡ checked bytes.now }
     ensures exact { Decides (is_ok result) (Sound bytes.now) }
+    ensures refuses { Refuses bytes.now result }
     ensures rewritten { is_ok result ≡ true → flat_map written (records bytes.now) ≡ bytes.now }
 {
     let mut reader = Reader::new(bytes);

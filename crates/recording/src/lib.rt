@@ -6,5 +6,5 @@ pub mod reading;
 pub mod records;
 
 pub use checking::check;
-pub use reading::Reader;
+pub use reading::{Reader, laws};
 pub use records::Record;

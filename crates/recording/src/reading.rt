@@ -1,7 +1,7 @@
 //! Reading a recording record by record. Nothing is copied, and at a fault the reading stays where it is.
 ghost use Rattle.std.specs.Prelude.{◌≡◌, ◌≤◌, length};
 ghost use Rattle.units.specs.Strings.{Octets};
-ghost use Rattle.recording.specs.Reading.{Lawful, answered, fault, step, stepped};
+ghost use Rattle.recording.specs.Reading.{Lawful, RecordingStands, answered, fault, step, stepped};
 
 use super::records::Record;
 use units::{Bytes, Layer, Reason, Refusal};
@@ -9,8 +9,9 @@ use units::{Bytes, Layer, Reason, Refusal};
 /// The most bytes that a recording has.
 pub const LONGEST: usize = 65_536;
 
-/// A reading of recorded bytes, and the offset of the record that comes next.
-#[derive(Clone, Copy, Debug)]
+/// A reading of recorded bytes, and the offset of the record that comes next. Recorded keystream is secret, so it has
+/// neither `Debug` nor equality.
+#[derive(Clone, Copy)]
 pub struct Reader<'a> {
     bytes: &'a [u8],
     offset: usize,
@@ -60,7 +61,7 @@ impl<'a> Reader<'a> {
     }
 }
 
-/// The result of [`Reader::record_indices`].
+/// The result of [`Reader::record_indices`]. As the reader, it has neither `Debug` nor equality.
 #[derive(Clone, Copy)]
 pub struct RecordIndices<'a> {
     reader: Reader<'a>,
@@ -83,6 +84,12 @@ impl<'a> Iterator for RecordIndices<'a> {
         Some((offset, record))
     }
 }
+
+/// The laws of the records of every byte string, which the layers above rest on. It does nothing: a caller's proof has
+/// the laws from its contract.
+pub fn laws()
+    ensures { RecordingStands }
+{}
 
 /// A fault of the recording at a place.
 fn refuse(place: usize) -> Refusal

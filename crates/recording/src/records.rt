@@ -19,8 +19,9 @@ const FEWEST_BLOCKS: usize = 1;
 /// The most blocks that a keystream record has.
 const MOST_BLOCKS: usize = 1_024;
 
-/// One of the two kinds of record. Its parts are parts of the recording.
-#[derive(Clone, Copy, Debug)]
+/// One of the two kinds of record. Its parts are parts of the recording. Keystream is secret, so it has neither `Debug`
+/// nor equality.
+#[derive(Clone, Copy)]
 pub enum Record<'a> {
     /// Blocks of keystream under a nonce.
     Keystream {
