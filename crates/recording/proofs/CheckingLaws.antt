@@ -1,5 +1,5 @@
 -- Where the records of a recording end, and what the verdict says.
-use Rattle.std.proofs.Common.{◌≡◌, ◌↔◌, ℕ, ◌+◌, ◌≤◌, true, false, Bool, cond, ltb, nat_eq, List, [], ◌++◌, length, drop, is_ok, Some, None, Ok, Err, Decides, Result, sym, subst, refl, ap, ◌∙◌, append-nil, arith, length-append}
+use Rattle.std.proofs.Common.{◌≡◌, ◌↔◌, ℕ, ◌+◌, ◌≤◌, true, false, Bool, cond, List, [], ◌++◌, length, drop, is_ok, Some, None, Ok, Err, Decides, Result, sym, subst, refl, ap, ◌∙◌, append-nil, arith, length-append}
 use Rattle.std.proofs.lemmas.List.{drop_all, nil_from_length}
 use Rattle.std.proofs.lemmas.Bool.Decides.{Decides-at, nat_tests}
 use Rattle.std.specs.List.{flat_map}
@@ -110,17 +110,25 @@ faults xs o short at = (
       grind (arith, nat_tests),
 )
 
--- a refusal is a fault at a place
-kind : (xs : List ℕ) (why : Refusal) → checked xs ≡ Err why → why ≡ fault why.place
-kind xs why e = go (ltb 65536 (length xs)) (nat_eq (end xs) (length xs)) e
-  where
-    go : (a b : Bool) → ◌≡◌ {A = Result (Unit {0}) Refusal} (cond a (Err (fault 65536)) (cond b (Ok tt) (Err (fault (end xs))))) (Err why) → why ≡ fault why.place
-    go true b h = cc
-    go false true h = cc
-    go false false h = cc
+-- where the verdict is a refusal, it tells a fault at a place
+record Kind (verdict : Result (Unit {0}) Refusal) : Type 0 where
+  is : (why : Refusal) → verdict ≡ Err why → why ≡ fault why.place
+
+Kind-cond : (b : Bool) (v w : Result (Unit {0}) Refusal) → Kind v → Kind w → Kind (cond b v w)
+Kind-cond true v w k l = k
+Kind-cond false v w k l = l
+
+Kind-fault : (place : ℕ) → Kind (Err (fault place))
+Kind-fault place = record { is = λ why e. cc }
+
+Kind-ok : Kind (Ok tt)
+Kind-ok = record { is = λ why e. cc }
+
+kind : (xs : List ℕ) → Kind (checked xs)
+kind xs = Kind-cond _ _ _ (Kind-fault _) (Kind-cond _ _ _ Kind-ok (Kind-fault _))
 
 refuses : (xs : List ℕ) → Octets xs → Refuses xs (checked xs)
-refuses xs o = record { kind = kind xs; long = λ h. grind (arith, nat_tests); first = faults xs o }
+refuses xs o = record { kind = (kind xs).is; long = λ h. grind (arith, nat_tests); first = faults xs o }
 
 -- what `check` promises of an answer that is the verdict
 pub told : (xs : List ℕ) (answer : Result (Unit {0}) Refusal) → Octets xs → answer ≡ checked xs
