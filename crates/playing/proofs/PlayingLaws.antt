@@ -142,13 +142,16 @@ no_record : NoRecord []
 no_record (keystream nonce blocks) later there = let parts = there.parts in absurd (cc)
 no_record (remark text) later there = let parts = there.parts in absurd (cc)
 
+too_long : (xs : List ℕ) → 65536 < length xs → readable xs ≡ []
+too_long xs h = grind (arith, nat_tests)
+
 pub playback_stands : RecordingStands → PlaybackStands
 playback_stands stands =
     record {
       damaged = λ es rest formed o none h. played_run stands es (flat_map written es ++ rest) record { formed = formed; rest = rest; parts = refl; none = none } o h;
       whole = λ es formed h.
           played_run stands es (flat_map written es) record { formed = formed; rest = []; parts = sym (append-nil (flat_map written es)); none = no_record } (λ k. omega arith) h;
-      long = λ xs h. grind (arith, nat_tests);
+      long = too_long;
       first = λ n blocks es later h.
           past n es (keystream n blocks ∷ later) h
           ∙ ap (λ (b : Bool). cond b blocks (blocks_under n later)) ((same_tells n n).1 refl);
