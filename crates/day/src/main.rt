@@ -8,13 +8,10 @@
 //! - `log` and `accounts`: what the journal of those calls tells
 #![tactic(auto)]
 
-ghost use Rattle.std.specs.Prelude.{◌≡◌, IfOk, [], map, vec_items};
+ghost use Rattle.std.specs.Prelude.{◌≡◌, IfOk, map, vec_items};
 ghost use Rattle.aes_generator.specs.AesGenerator.{aes_meaning};
-ghost use Rattle.windows.specs.Windows.{new_window};
+ghost use Rattle.replay.specs.EveryRun.{EveryNewRun, LawsOf, new_run};
 ghost use Rattle.replay.specs.Journals.{played, told};
-ghost use Rattle.replay.specs.Laws.{Laws};
-ghost use Rattle.replay.specs.RoundTrip.{RoundTrip};
-ghost use Rattle.replay.specs.Runs.{play};
 
 mod accounts;
 mod chance;
@@ -76,16 +73,17 @@ fn run(rt: &HostRuntime) -> anyhow::Result<()> {
     Ok(())
 }
 
-/// Sets up the two ends of a link under a key, makes each call in turn on them, and returns the journal. Whatever the calls,
-/// the laws of a link hold of it.
+/// Sets up the two ends of a link under a key, makes each call in turn on them, and returns the journal. Whatever is called on
+/// two such ends, the laws of a link hold of what comes of it.
 fn journal_of(
     heap: Global,
     key: &Key,
     settings: Settings,
     calls: &[Call],
 ) -> Result<Vec<Event>, AllocError>
-    ensures journal { IfOk result (λ events. let m = aes_meaning key.now.0 in map told (vec_items events) ≡ play m m settings.terms settings.terms [] settings.first (new_window settings.first) (map played calls.now)) }
-    ensures laws { IfOk result (λ events. let journal = map told (vec_items events) in Laws (aes_meaning key.now.0) settings.terms settings.first journal × RoundTrip settings.first journal) }
+    ensures journal { IfOk result (λ events. map told (vec_items events) ≡ new_run (aes_meaning key.now.0) settings (map played calls.now)) }
+    ensures laws { EveryNewRun (aes_meaning key.now.0) settings }
+    ensures own { LawsOf (aes_meaning key.now.0) settings.terms settings.first settings.first (new_run (aes_meaning key.now.0) settings (map played calls.now)) }
 {
     let mut sender = Sender::new(AesGenerator::new(key), settings);
     let mut receiver = Receiver::new(AesGenerator::new(key), settings);

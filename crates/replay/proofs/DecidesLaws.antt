@@ -24,9 +24,10 @@ use Rattle.link.specs.Answers.{over}
 use Rattle.link.specs.Opens.{OpenCall, WellFormed, open_by, open_refusal, opened_as, opened_message}
 use Rattle.link.specs.Seals.{SealCall, sealed_parts}
 use Rattle.link.specs.Settings.{Lawful, parameters}
+use Rattle.link.specs.declared.receiving.Opened.{Opened}
 use Rattle.link.specs.declared.settings.Terms.{Terms}
 use Rattle.replay.specs.Runs.{Event, OpenEvent, SealEvent, opening, sealing}
-use Rattle.replay.specs.Laws.{Accepted, Alike, Decided, Offers, TagsAgree, counts_opened}
+use Rattle.replay.specs.Laws.{Accepted, Alike, Decided, Offers, TagsAgree, Tells, counts_opened}
 use Rattle.replay.proofs.Follows.{AllAsked, Follows}
 use Rattle.replay.proofs.JournalLaws.{OpenedAfter, asked_in, opened_in, sealed_in}
 use Rattle.replay.proofs.OnceLaws.{admitted}
@@ -114,6 +115,10 @@ module _ (m : Meaning) (s : Terms) (first : ℕ) (done : List ℕ) (o : OpenEven
         λ h. accepted_all (tests_pass m s window o.asked offers reached (judged ∙ still.1 h.0, h.1)),
       )
 
+  -- it answers the numbers of the frame
+  pub numbers_told : (x : Opened) → o.answer ≡ Ok x → x ≡ opened_as b
+  numbers_told x ok = (admitted m s window o x is ok).answer
+
   -- what then lies at the start of its buffer
   pub message_told : Sound m → Reached m s b.count b.bits → Fits b → Accepted o → take (filled b.bits) o.buffer ≡ opened_message m s b
   message_told sound reached fits a =
@@ -140,6 +145,16 @@ module _ (m : Meaning) (sound : Sound m) (s : Terms) (count : ℕ) (c : SealCall
   same_bits : c.bits ≡ b.bits
   unfolding sealed_parts
   same_bits = alike.bits
+
+  -- the numbers of the frame are those of the seal
+  pub tells : (x : Opened) → x ≡ opened_as b → Tells count c x
+  tells x is =
+      record {
+        count = ap (λ (a : Opened). a.count) is ∙ sym same_count;
+        bits = ap (λ (a : Opened). a.bits.0) is ∙ sym same_bits;
+        aad_place = ap (λ (a : Opened). a.aad_place.0) is;
+        aad_bits = ap (λ (a : Opened). a.aad_bits.0) is ∙ sym same_aad_bits;
+      }
 
   abbrev p : Parameters
   p = parameters s count
@@ -197,7 +212,7 @@ module _ (m : Meaning) (sound : Sound m) (s : Terms) (lawful : Lawful s) (first 
       (count : ℕ) (c : SealCall) → SealPassed m s count c → Octets c.aad → Octets c.message
       → (done : List ℕ) (o : OpenEvent) → OpenedAfter m s first done o → Offers s o.asked → Octets o.asked.frame
       → Alike (sealed_parts m s count c) (parts o.asked.frame)
-      → Decided m s first done (sealed_parts m s count c) c.message (parts o.asked.frame) o
+      → Decided m s first done (sealed_parts m s count c) c (parts o.asked.frame) o
   unfolding sealed_parts
   decided_parts count c passed aad message done o is offers frame alike =
       let f = o.asked.frame in
@@ -208,18 +223,22 @@ module _ (m : Meaning) (sound : Sound m) (s : Terms) (lawful : Lawful s) (first 
       let agrees = right_agrees m sound s count c passed b well alike lawful.largest aad message (Octets-aad f frame) (Octets-ciphertext f frame) in
       record {
         accepted = (λ a. ((right.0 a).0, agrees.0 (right.0 a).1), λ h. right.1 (h.0, agrees.1 h.1));
-        opens_to = λ a. message_told m s first done o is sound near well.fits a ∙ message_differs m sound s count c passed b well alike;
+        numbers = λ x ok. tells m sound s count c passed b well alike x (numbers_told m s first done o is x ok);
+        opens_to = λ x ok.
+            ap (λ (a : Opened). take (filled a.bits.0) o.buffer) (numbers_told m s first done o is x ok)
+            ∙ message_told m s first done o is sound near well.fits (x, ok)
+            ∙ message_differs m sound s count c passed b well alike;
       }
 
   pub decided :
       (count : ℕ) (e : SealEvent) (n : Bytes) → Made m s count e n → Octets e.asked.aad → Octets e.asked.message
       → (done : List ℕ) (o : OpenEvent) → OpenedAfter m s first done o → Offers s o.asked → Octets o.asked.frame
       → Alike (parts (take n.0 e.buffer)) (parts o.asked.frame)
-      → Decided m s first done (parts (take n.0 e.buffer)) e.asked.message (parts o.asked.frame) o
+      → Decided m s first done (parts (take n.0 e.buffer)) e.asked (parts o.asked.frame) o
   decided count e n made aad message done o is offers frame alike =
       let b = parts o.asked.frame in
       let again = made_parts frames_stand m s count e n sound lawful made in
-      subst (λ (q : Parts). Decided m s first done q e.asked.message b o) (sym again)
+      subst (λ (q : Parts). Decided m s first done q e.asked b o) (sym again)
       (decided_parts count e.asked (seal_passed m s count e.asked made.accepted) aad message done o is offers frame
       (subst (λ (q : Parts). Alike q b) again alike))
 
@@ -229,7 +248,7 @@ module _ (m : Meaning) (sound : Sound m) (s : Terms) (lawful : Lawful s) (first 
       → (before after : List Event) (o : OpenEvent) → journal ≡ before ++ (opening o ∷ after) → Offers s o.asked
       → (early late : List Event) (e : SealEvent) (n : Bytes) → journal ≡ early ++ (sealing e ∷ late) → e.answer ≡ Ok n
       → Alike (parts (take n.0 e.buffer)) (parts o.asked.frame)
-      → Decided m s first (counts_opened before) (parts (take n.0 e.buffer)) e.asked.message (parts o.asked.frame) o
+      → Decided m s first (counts_opened before) (parts (take n.0 e.buffer)) e.asked (parts o.asked.frame) o
   sum_decides next journal follows asked before after o at offers early late e n place ok alike =
       let from = sealed_in m s first next [] early late e (subst (Follows m s first next []) place follows) in
       let given = asked_in early late (sealing e) (subst AllAsked place asked) in

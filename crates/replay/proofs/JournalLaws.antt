@@ -1,5 +1,5 @@
 -- What a run leaves is a journal of which each event follows, and where an event of such a journal comes from.
-use Rattle.std.proofs.Common.{◌≡◌, ℕ, Bool, true, false, List, [], ◌∷◌, ◌++◌, Some, None, Option, sym, refl, ap, ◌∙◌, subst, append-nil, append_assoc}
+use Rattle.std.proofs.Common.{◌≡◌, ℕ, ◌+◌, Bool, true, false, List, [], ◌∷◌, ◌++◌, length, Some, None, Option, sym, refl, ap, ◌∙◌, subst, append-nil, append_assoc, arith, length-append}
 use Rattle.units.specs.declared.refusals.Refusal.{Refusal}
 use Rattle.generator.specs.Generators.{Meaning, Same}
 use Rattle.nonces.specs.Nonces.{nonce}
@@ -7,11 +7,12 @@ use Rattle.windows.specs.Windows.{mark, marked, new_window}
 use Rattle.windows.specs.declared.Window.{Window}
 use Rattle.frames.specs.Frames.{parts}
 use Rattle.link.specs.Opens.{OpenCall, open_by, open_refusal, opened}
-use Rattle.link.specs.Seals.{sealed}
+use Rattle.link.specs.Seals.{seal_by, seal_refusal, sealed}
 use Rattle.link.specs.Settings.{parameters}
 use Rattle.link.specs.declared.settings.Terms.{Terms}
 use Rattle.replay.specs.Runs.{Call, Event, OpenEvent, SealEvent, asked, loss_figure, losing, open_event, open_frame, opening, play, seal, seal_event, sealing, stepped}
-use Rattle.replay.specs.Laws.{SameTerms, counts_in, counts_opened}
+use Rattle.replay.specs.Laws.{SameTerms, counts_in, counts_opened, frames_in, frames_sealed}
+use Rattle.replay.specs.RoundTrip.{count_after}
 use Rattle.replay.proofs.Follows.{AllAsked, Follows, OctetsAsked}
 use Rattle.replay.proofs.SameMeaning.{opened_same}
 
@@ -82,18 +83,36 @@ asked_in [] late x h = h.0
 asked_in (y ∷ early) late x h = asked_in early late x h.1
 
 module _ (m : Meaning) (s : Terms) (first : ℕ) where
-  -- a seal was made with some count
-  pub record Sealed (e : SealEvent) : Type 0 where
+  -- a seal uses a count exactly where it is accepted
+  next_counted : (next : ℕ) (e : SealEvent) → e ≡ seal_event e.asked (sealed m s next e.asked)
+      → (sealed m s next e.asked).next ≡ next + length (frames_in e.answer e.buffer)
+  next_counted next e is = at (seal_refusal m s next e.asked) ∙ ap (λ (x : SealEvent). next + length (frames_in x.answer x.buffer)) (sym is)
+    where
+      at : (r : Option Refusal) → (seal_by r m s next e.asked).next
+          ≡ next + length (frames_in (seal_by r m s next e.asked).answer (seal_by r m s next e.asked).buffer)
+      at None = refl
+      at (Some r) = omega arith
+
+  -- a seal was made with the count that came after those of the accepted seals before it
+  pub record Sealed (next : ℕ) (early : List Event) (e : SealEvent) : Type 0 where
     pub count : ℕ
     pub is : e ≡ seal_event e.asked (sealed m s count e.asked)
+    pub used : count ≡ count_after next early
 
   pub sealed_in : (next : ℕ) (done : List ℕ) (early late : List Event) (e : SealEvent)
       → Follows m s first next done (early ++ (sealing e ∷ late))
-      → Sealed e
-  sealed_in next done [] late e f = record { count = next; is = f.0 }
-  sealed_in next done (sealing x ∷ early) late e f = sealed_in (sealed m s next x.asked).next done early late e f.1
-  sealed_in next done (opening x ∷ early) late e f = sealed_in next (done ++ counts_in x.answer) early late e f.1
-  sealed_in next done (losing n ∷ early) late e f = sealed_in next done early late e f
+      → Sealed next early e
+  sealed_in next done [] late e f = record { count = next; is = f.0; used = omega arith }
+  sealed_in next done (sealing x ∷ early) late e f =
+      let from = sealed_in (sealed m s next x.asked).next done early late e f.1 in
+      let long = length-append (frames_in x.answer x.buffer) (frames_sealed early) in
+      record { count = from.count; is = from.is; used = omega (arith, from.used, next_counted next x f.0, long) }
+  sealed_in next done (opening x ∷ early) late e f =
+      let from = sealed_in next (done ++ counts_in x.answer) early late e f.1 in
+      record { count = from.count; is = from.is; used = from.used }
+  sealed_in next done (losing n ∷ early) late e f =
+      let from = sealed_in next done early late e f in
+      record { count = from.count; is = from.is; used = from.used }
 
   -- an open was made with a window in which the counts opened before are marked
   abbrev pub OpenedAfter : List ℕ → OpenEvent → Type 0

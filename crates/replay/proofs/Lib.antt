@@ -6,6 +6,7 @@ pub mod DecidesLaws
 pub mod ReturnLaws
 pub mod PlaceLaws
 pub mod OnceLaws
+pub mod OctetLaws
 pub mod AllLaws
 pub mod OfferedLaws
 pub mod RunLaws

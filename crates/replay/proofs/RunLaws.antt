@@ -7,23 +7,26 @@ use Rattle.generator.specs.Generators.{Meaning, Same}
 use Rattle.generator.proofs.SameLaws.{Same-trans}
 use Rattle.windows.specs.declared.Window.{Window}
 use Rattle.link.specs.declared.settings.Settings.{Settings}
-use Rattle.replay.specs.Asked.{AllAsked, OctetsAsked}
-use Rattle.replay.specs.Journals.{played, told}
+use Rattle.replay.specs.Asked.{CallOctets, CallsOctets}
+use Rattle.replay.specs.Journals.{played}
 use Rattle.replay.specs.declared.calls.Call.{Call}
 use Rattle.replay.specs.Runs.{Ends, Event as Told, Call as Played, LeftBySome, Turn, ends, left, play, stepped}
-use Rattle.replay.specs.declared.calls.Event.{Event}
 use Rattle.replay.proofs.SameMeaning.{stepped_same}
 
 -- with one call fewer left to look at
 pub asked_more :
-    (es : List Event) (i : ℕ) (e : Event) → i < length es → e ≡ get_or es i e → OctetsAsked (told e)
-    → (AllAsked (map told (drop i es)) → AllAsked (map told es)) → AllAsked (map told (drop (i + 1) es)) → AllAsked (map told es)
-asked_more es i e h is octets so rest =
-    so (subst (λ (l : List Event). AllAsked (map told l)) (sym (drop_more es i e h ∙ ap (λ (y : Event). y ∷ drop (i + 1) es) (sym is))) (octets, rest))
+    (cs : List Call) (i : ℕ) (c : Call) → i < length cs → c ≡ get_or cs i c → CallOctets (played c)
+    → (CallsOctets (map played (drop i cs)) → CallsOctets (map played cs))
+    → CallsOctets (map played (drop (i + 1) cs))
+    → CallsOctets (map played cs)
+asked_more cs i c h is octets so rest =
+    so (subst (λ (l : List Call). CallsOctets (map played l)) (sym (drop_more cs i c h ∙ ap (λ (y : Call). y ∷ drop (i + 1) cs) (sym is))) (octets, rest))
 
 -- with none left
-pub asked_all : (es : List Event) (i : ℕ) → length es ≤ i → (AllAsked (map told (drop i es)) → AllAsked (map told es)) → AllAsked (map told es)
-asked_all es i h so = so (subst (λ (l : List Event). AllAsked (map told l)) (sym (drop_all i es h)) tt)
+pub asked_all :
+    (cs : List Call) (i : ℕ) → length cs ≤ i → (CallsOctets (map played (drop i cs)) → CallsOctets (map played cs))
+    → CallsOctets (map played cs)
+asked_all cs i h so = so (subst (λ (l : List Call). CallsOctets (map played l)) (sym (drop_all i cs h)) tt)
 
 -- ---- a run
 
@@ -35,6 +38,10 @@ pub record Moment : Type 0 where
   pub r : Settings
   pub next : ℕ
   pub window : Window
+
+-- the same, from the six
+abbrev pub moment : Meaning → Meaning → Settings → Settings → ℕ → Window → Moment
+moment m k s r next window = record { m = m; k = k; s = s; r = r; next = next; window = window }
 
 -- what came of calls made from a moment on, and what is then left, told of what the ends meant and were set to at the start
 abbrev pub play_from : Moment → List Told → Moment → List Played → List Told

@@ -16,6 +16,7 @@ use Rattle.windows.specs.declared.Window.{Window}
 use Rattle.frames.specs.Frames.{Parts, parts}
 use Rattle.link.specs.Keystream.{places}
 use Rattle.link.specs.Settings.{parameters}
+use Rattle.link.specs.Seals.{SealCall}
 use Rattle.link.specs.Opens.{OpenCall, WellFormed}
 use Rattle.link.specs.declared.receiving.Opened.{Opened}
 use Rattle.link.specs.declared.settings.Terms.{Terms}
@@ -103,10 +104,20 @@ TagsAgree m s a b =
 abbrev pub Accepted : OpenEvent → Type 0
 Accepted o = (a : Opened) × (o.answer ≡ Ok a)
 
--- the sealed frame a of a message, and the frame b offered to the open o, after the counts in `before` were opened
-pub record Decided (m : Meaning) (s : Terms) (first : ℕ) (before : List ℕ) (a : Parts) (message : List ℕ) (b : Parts) (o : OpenEvent) : Type 0 where
+-- an open answers the count that a seal used, its message bits and its AAD bits, and that the AAD begins at byte 12
+pub record Tells (used : ℕ) (c : SealCall) (a : Opened) : Type 0 where
+  pub count : a.count ≡ used
+  pub bits : a.bits.0 ≡ c.bits
+  pub aad_place : a.aad_place.0 ≡ 12
+  pub aad_bits : a.aad_bits.0 ≡ c.aad_bits
+
+-- the frame a of the seal c, and the frame b offered to the open o, after the counts in `before` were opened
+pub record Decided (m : Meaning) (s : Terms) (first : ℕ) (before : List ℕ) (a : Parts) (c : SealCall) (b : Parts) (o : OpenEvent) : Type 0 where
   pub accepted : Accepted o ↔ (StillOpen first before b.count × TagsAgree m s a b)
-  pub opens_to : Accepted o → take (filled b.bits) o.buffer ≡ sums (cleared a.bits message) (sums a.ciphertext b.ciphertext)
+  pub numbers : (x : Opened) → o.answer ≡ Ok x → Tells a.count c x
+  pub opens_to :
+      (x : Opened) → o.answer ≡ Ok x
+      → take (filled x.bits.0) o.buffer ≡ sums (cleared c.bits c.message) (sums a.ciphertext b.ciphertext)
 
 -- the open meets neither 1 nor 6, and its frame none of 8, 9 and 10
 pub record Offers (s : Terms) (c : OpenCall) : Type 0 where
@@ -126,7 +137,7 @@ pub record Laws (m : Meaning) (s : Terms) (first : ℕ) (journal : List Event) :
       (before after : List Event) (o : OpenEvent) → journal ≡ before ++ (opening o ∷ after) → Offers s o.asked
       → (early late : List Event) (e : SealEvent) (n : Bytes) → journal ≡ early ++ (sealing e ∷ late) → e.answer ≡ Ok n
       → Alike (parts (take n.0 e.buffer)) (parts o.asked.frame)
-      → Decided m s first (counts_opened before) (parts (take n.0 e.buffer)) e.asked.message (parts o.asked.frame) o
+      → Decided m s first (counts_opened before) (parts (take n.0 e.buffer)) e.asked (parts o.asked.frame) o
   -- a count is opened once
   pub opened_once : length (counts_opened journal) ≡ different nat_eq (counts_opened journal)
 

@@ -2,4 +2,5 @@ pub mod Runs
 pub mod Asked
 pub mod Laws
 pub mod RoundTrip
+pub mod EveryRun
 pub mod Journals

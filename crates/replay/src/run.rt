@@ -3,10 +3,10 @@ ghost use Rattle.std.specs.Prelude.{◌≡◌, IfOk, OnErr, OnOk, [], map, vec_i
 ghost use Rattle.generator.specs.Generators.{Same};
 ghost use Rattle.link.specs.Seals.{sealed};
 ghost use Rattle.link.specs.Opens.{opened};
-ghost use Rattle.replay.specs.Asked.{AllAsked, OctetsAsked};
+ghost use Rattle.replay.specs.Asked.{CallOctets, CallsOctets, OctetsOffered};
+ghost use Rattle.replay.specs.EveryRun.{LinkLaws};
 ghost use Rattle.replay.specs.Journals.{named, open_told, played, seal_call, seal_told, told};
-ghost use Rattle.replay.specs.Laws.{DifferentTies, Laws, OneLink, PlacesCounted};
-ghost use Rattle.replay.specs.RoundTrip.{RoundTrip};
+ghost use Rattle.replay.specs.Laws.{DifferentTies, PlacesCounted};
 ghost use Rattle.replay.specs.Runs.{LeftBySome, asked, changed, ends, frame_at, frame_offered, left, open_event, play, seal_event, sealed_by, stepped};
 
 use super::calls::{Call, Event, Offered, OpenEvent, Opening, SealEvent, Sealing};
@@ -31,25 +31,26 @@ pub fn replay<G: Generator, K: Generator>(
     ensures receiver_settings { receiver.new.settings ≡ receiver.old.settings }
     ensures sender_same { Same (G.meaning sender.old.generator) (G.meaning sender.new.generator) }
     ensures receiver_same { Same (K.meaning receiver.old.generator) (K.meaning receiver.new.generator) }
-    ensures laws { OneLink (G.meaning sender.old.generator) (K.meaning receiver.old.generator) sender.old.settings.terms receiver.old.settings.terms receiver.old.window receiver.old.settings.first → IfOk result (λ events. Laws (G.meaning sender.old.generator) sender.old.settings.terms receiver.old.settings.first (map told (vec_items events)) × RoundTrip receiver.old.settings.first (map told (vec_items events))) }
+    ensures laws { LinkLaws (G.meaning sender.old.generator) (K.meaning receiver.old.generator) sender.old.settings receiver.old.settings sender.old.next receiver.old.window }
+    ensures bytes { CallsOctets (map played calls.now) }
     ensures different { DifferentTies }
     ensures places { PlacesCounted }
 {
+    octets_asked(calls);
     let mut journal = Vec::new(heap);
     for call in calls {
         let event = step(heap, sender, receiver, journal.as_slice(), call)?;
         journal.push(event)?;
     }
-    octets_asked(journal.as_slice());
     Ok(journal)
 }
 
 /// For the proof alone: it tells that what callers hand over is bytes, which no type tells of what a vector holds.
-fn octets_asked(journal: &[Event])
-    ensures { AllAsked (map told journal.now) }
+fn octets_asked(calls: &[Call])
+    ensures { CallsOctets (map played calls.now) }
 {
-    for event in journal {
-        event.octets_asked();
+    for call in calls {
+        call.octets_asked();
     }
 }
 
@@ -138,6 +139,22 @@ fn open<K: Generator>(
     })
 }
 
+impl Call {
+    /// For the proof alone, of one call: what its caller hands over is bytes.
+    fn octets_asked(&self)
+        ensures { CallOctets (played self.now) }
+    {
+        match self {
+            Call::Seal(asked) => {
+                octets(asked.aad.as_slice());
+                octets(asked.message.as_slice());
+            }
+            Call::Open(asked) => asked.frame.octets_offered(),
+            Call::Loss => {}
+        }
+    }
+}
+
 impl Sealing {
     /// The same again.
     fn copy(&self, heap: Global) -> Result<Sealing, AllocError>
@@ -155,6 +172,21 @@ impl Sealing {
 }
 
 impl Offered {
+    /// For the proof alone, of what is offered to an open.
+    fn octets_offered(&self)
+        ensures { OctetsOffered (named self.now) }
+    {
+        match self {
+            Offered::Bytes(frame) => {
+                octets(frame.as_slice());
+            }
+            Offered::Sealed(_) => {}
+            Offered::Damaged { sum, .. } => {
+                let _sum = *sum;
+            }
+        }
+    }
+
     /// The bytes of the frame, after the calls of a journal.
     fn bytes(&self, heap: Global, journal: &[Event]) -> Result<Vec<u8>, AllocError>
         ensures { IfOk result (λ frame. vec_items frame ≡ frame_offered (map told journal.now) (named self.now)) }
@@ -193,22 +225,6 @@ fn frame_at(journal: &[Event], call: usize) -> &[u8]
 }
 
 impl Event {
-    /// For the proof alone, of one event: what its caller handed over is bytes.
-    fn octets_asked(&self)
-        ensures { OctetsAsked (told self.now) }
-    {
-        match self {
-            Event::Seal(event) => {
-                octets(event.asked.aad.as_slice());
-                octets(event.asked.message.as_slice());
-            }
-            Event::Open(event) => {
-                octets(event.frame.as_slice());
-            }
-            Event::Loss(_) => {}
-        }
-    }
-
     /// The frame that was sealed, if this is a seal that was accepted.
     #[tactic(auto, using(crate::proofs::OfferedLaws::take_least))]
     fn sealed(&self) -> &[u8]

@@ -2,10 +2,10 @@ use Rattle.std.proofs.Common.{arith}
 use Rattle.replay.proofs.RunLaws.{asked_all, asked_more}
 use Rattle.replay.proofs.run.octets_asked.Goals as goal
 
-pub loop-event-preserved : goal.loop-event-preserved
-loop-event-preserved c =
-    asked_more c.args.journal.now c.loop-event.event-index c.event-item.result (omega arith) c.event-item.is c.octets_asked.ensures
-    c.loop-event.invariant
+pub loop-call-preserved : goal.loop-call-preserved
+loop-call-preserved c =
+    asked_more c.args.calls.now c.loop-call.call-index c.call-item.result (omega arith) c.call-item.is c.octets_asked.ensures
+    c.loop-call.invariant
 
 pub returns : goal.returns
-returns c = asked_all c.args.journal.now c.loop-event.event-index (omega arith) c.loop-event.invariant
+returns c = asked_all c.args.calls.now c.loop-call.call-index (omega arith) c.loop-call.invariant
