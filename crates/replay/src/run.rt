@@ -17,6 +17,8 @@ use units::{BitString, octets};
 
 /// Makes each call in turn on the two ends, and returns what came of each. Where memory runs out, the first calls have been
 /// made and the others have not.
+///
+/// Of the two ends of a link the laws hold whatever is called on them, and whether or not memory runs out.
 #[tactic(auto, using(crate::proofs::PlaceLaws::different_ties, crate::proofs::PlaceLaws::places_counted))]
 pub fn replay<G: Generator, K: Generator>(
     heap: Global,
