@@ -1,10 +1,12 @@
 -- What holds of NEA5, NIA5 and NCA5, by what the field and the nonces promise.
-use Rattle.std.proofs.Common.{◌≡◌, ℕ, ◌≤◌, true, false, List, length, take, None, Some, Ok, refl, ap, arith}
+use Rattle.std.proofs.Common.{◌≡◌, ℕ, ◌≤◌, true, false, List, length, take, None, Some, Ok, refl, ap, arith, zero, suc, ◌/◌}
+use Rattle.std.specs.Simd.Lanes.{digits_l}
 use Rattle.std.proofs.lemmas.Bool.Decides.{nat_tests}
 use Rattle.units.specs.Lengths.{begun, filled}
-use Rattle.units.specs.Strings.{same}
-use Rattle.units.proofs.StringLaws.{same_tells}
+use Rattle.units.specs.Strings.{Octets, same}
+use Rattle.units.proofs.StringLaws.{Octets-take, same_tells}
 use Rattle.units.specs.Spare.{cleared}
+use Rattle.units.proofs.SpareLaws.{cleared_again}
 use Rattle.units.specs.Sums.{◌⊕◌}
 use Rattle.polynomials.specs.Field.{pdot}
 use Rattle.field.specs.Blocks.{block_bytes, blocks}
@@ -17,9 +19,9 @@ use Rattle.cover.specs.Answers.{outcome}
 use Rattle.cover.specs.Keystream.{covered}
 use Rattle.cover.specs.Combined.{CoveredOpens, SpareIgnored, ciphertext_of, instance_nonce, open_refusal, stream_nonce, tag_of}
 use Rattle.cover.specs.Encryption.{Nea5Twice, nea5_nonce, nea5_refusal}
-use Rattle.cover.specs.Laws.{CoverLaws, CoveredStands, TagLong}
+use Rattle.cover.specs.Laws.{CoverLaws, CoveredStands, TagLong, TagOctets}
 use Rattle.cover.specs.Tags.{TwoTags, field_value, key_h, key_p, key_q, tag_under}
-use Rattle.cover.proofs.KeystreamLaws.{Octets-covered, clear-covered, cleared_again, covered-cleared, covered_other, covered_twice, length-covered}
+use Rattle.cover.proofs.KeystreamLaws.{Octets-covered, clear-covered, covered-cleared, covered_other, covered_twice, length-covered}
 use Rattle.cover.proofs.SameLaws.{same_calls, same_stands}
 
 -- a call's two nonces are nonces
@@ -84,6 +86,17 @@ spare_ignored =
           (fold-cleared h 0 aad_bits aad);
     }
 
+Octets-digits : (n v : ℕ) → Octets (digits_l 256 n v)
+Octets-digits zero v k = omega arith
+Octets-digits (suc n) v zero = omega arith
+Octets-digits (suc n) v (suc k) = Octets-digits n (v / 256) k
+
+tag_octets : TagOctets
+unfolding tag_under tag block_bytes
+tag_octets m n t aad_bits aad bits ciphertext =
+    let v = whole_tag (key_h m n) (key_q m n) (key_p m n) aad_bits aad bits ciphertext in
+    Octets-take (digits_l 256 16 v) t (Octets-digits 16 v)
+
 covered_stands : CoveredStands
 covered_stands =
     record {
@@ -101,6 +114,7 @@ cover_laws fields nonces =
       nca5 = record { opens = covered_opens fields nonces; tags = two_tags fields; spare = spare_ignored };
       covered = covered_stands;
       long = tag_long fields;
+      octets = tag_octets;
       same = same_stands;
       calls = same_calls nonces;
     }

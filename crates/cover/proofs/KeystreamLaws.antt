@@ -1,27 +1,16 @@
 -- Keystream, and covering by it.
 use Rattle.std.proofs.Common.{◌≡◌, ℕ, zero, suc, ◌*◌, ◌≤◌, ltb, true, List, [], ◌∷◌, length, sym, refl, ap, ◌∙◌, ap₂, le_of_suc-le-suc, not-suc-le-zero, arith, length-append}
-use Rattle.std.proofs.lemmas.Bool.{le-ltb, cond-false}
 use Rattle.units.specs.Lengths.{begun, filled}
-use Rattle.units.specs.Spare.{bit_at, clear, cleared}
+use Rattle.units.specs.Spare.{clear, cleared}
 use Rattle.units.specs.Strings.{Octets}
 use Rattle.units.specs.Sums.{sums}
-use Rattle.units.proofs.SpareLaws.{Octets-cleared, clear_told, cleared_told, cleared-sums, length-cleared}
+use Rattle.units.proofs.SpareLaws.{Octets-cleared, clear-cleared, cleared-sums, cleared_again, length-cleared}
 use Rattle.units.proofs.StringLaws.{Octets-append, same_tells}
 use Rattle.units.proofs.SumLaws.{Octets-sums, length-sums, sums_between, terms}
 use Rattle.generator.specs.Generators.{IsNonce, Meaning, Sound}
 use Rattle.cover.specs.Keystream.{covered, stream}
 
 -- ---- byte strings
-
--- what is cleared is clear
-pub clear-cleared : (n : ℕ) (xs : List ℕ) → clear n (cleared n xs) ≡ true
-clear-cleared n xs =
-    (clear_told n (cleared n xs) (clear n (cleared n xs)) refl).1
-    (λ i h. cleared_told n xs (cleared n xs) refl i ∙ cond-false (ltb i n) (bit_at xs i) 0 (le-ltb i n h))
-
--- clearing again changes nothing
-pub cleared_again : (n : ℕ) (xs : List ℕ) → cleared n (cleared n xs) ≡ cleared n xs
-cleared_again n xs = (same_tells (cleared n (cleared n xs)) (cleared n xs)).0 (clear-cleared n xs)
 
 -- what is added twice falls out
 sums_again : (xs ks : List ℕ) → length xs ≤ length ks → sums (sums xs ks) ks ≡ xs

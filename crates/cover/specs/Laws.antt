@@ -14,7 +14,7 @@ use Rattle.cover.specs.Encryption.{Nea5Twice, nea5}
 use Rattle.cover.specs.Integrity.{nia5}
 
 -- a text of so many bits, which a sound generator's keystream under a nonce reaches
-pub record Reached (m : Meaning) (n : List ℕ) (bits : ℕ) (text : List ℕ) : Type 0 where
+pub record Coverable (m : Meaning) (n : List ℕ) (bits : ℕ) (text : List ℕ) : Type 0 where
   pub sound : Sound m
   pub nonce : IsNonce n
   pub enough : begun bits ≤ m.reach n
@@ -25,15 +25,15 @@ pub record CoveredStands : Type 0 where
   -- its spare bits are clear
   pub spare : (m : Meaning) (n : List ℕ) (bits : ℕ) (text : List ℕ) → clear bits (covered m n bits text) ≡ true
   -- it is as long as before
-  pub long : (m : Meaning) (n : List ℕ) (bits : ℕ) (text : List ℕ) → Reached m n bits text → length (covered m n bits text) ≡ filled bits
+  pub long : (m : Meaning) (n : List ℕ) (bits : ℕ) (text : List ℕ) → Coverable m n bits text → length (covered m n bits text) ≡ filled bits
   -- it is bytes
-  pub octets : (m : Meaning) (n : List ℕ) (bits : ℕ) (text : List ℕ) → Reached m n bits text → Octets text → Octets (covered m n bits text)
+  pub octets : (m : Meaning) (n : List ℕ) (bits : ℕ) (text : List ℕ) → Coverable m n bits text → Octets text → Octets (covered m n bits text)
   -- covered twice, it is as before, its spare bits cleared
-  pub twice : (m : Meaning) (n : List ℕ) (bits : ℕ) (text : List ℕ) → Reached m n bits text → covered m n bits (covered m n bits text) ≡ cleared bits text
+  pub twice : (m : Meaning) (n : List ℕ) (bits : ℕ) (text : List ℕ) → Coverable m n bits text → covered m n bits (covered m n bits text) ≡ cleared bits text
   -- another ciphertext as long uncovers to the text plus the difference of the two
   pub other :
       (m : Meaning) (n : List ℕ) (bits : ℕ) (text other : List ℕ)
-      → Reached m n bits text
+      → Coverable m n bits text
       → length other ≡ filled bits
       → clear bits other ≡ true
       → covered m n bits other ≡ sums (cleared bits text) (sums (covered m n bits text) other)
@@ -44,6 +44,12 @@ TagLong =
     (m : Meaning) (n : List ℕ) (t aad_bits : ℕ) (aad : List ℕ) (bits : ℕ) (ciphertext : List ℕ)
     → t ≤ 16
     → length (tag_under m n t aad_bits aad bits ciphertext) ≡ t
+
+-- a tag is bytes
+abbrev pub TagOctets : Type 0
+TagOctets =
+    (m : Meaning) (n : List ℕ) (t aad_bits : ℕ) (aad : List ℕ) (bits : ℕ) (ciphertext : List ℕ)
+    → Octets (tag_under m n t aad_bits aad bits ciphertext)
 
 -- generators that mean the same cover alike and make the same tags, as far as they reach
 pub record SameStands : Type 0 where
@@ -89,5 +95,6 @@ pub record CoverLaws : Type 0 where
   pub nca5 : Nca5Stands
   pub covered : CoveredStands
   pub long : TagLong
+  pub octets : TagOctets
   pub same : SameStands
   pub calls : SameCalls

@@ -186,9 +186,6 @@ longest : (p : Parts) → Fits p → length (layout p) ≤ 1492
 unfolding frame_length filled
 longest p fits = omega (arith, length_layout p fits, fits.aad_bits, fits.bits, fits.largest)
 
-pub frames_stand : FramesStand
-frames_stand = record { again = again; own = own; long = length_layout; longest = longest }
-
 -- ---- each byte is below 256
 
 pub Octets-head : (line size count aad_bits bits : ℕ) → line < 256 → size < 256
@@ -212,3 +209,6 @@ Octets-layout p h aad ciphertext tag =
     Octets-append (head p.line p.size p.count p.aad_bits p.bits) (p.aad ++ (p.ciphertext ++ p.tag))
     (Octets-head p.line p.size p.count p.aad_bits p.bits (omega (arith, h.line)) (omega (arith, h.largest)))
     (Octets-append p.aad (p.ciphertext ++ p.tag) aad (Octets-append p.ciphertext p.tag ciphertext tag))
+
+pub frames_stand : FramesStand
+frames_stand = record { again = again; own = own; long = length_layout; longest = longest; octets = Octets-layout }

@@ -112,3 +112,5 @@ pub record FramesStand : Type 0 where
   pub long : (p : Parts) → Fits p → length (layout p) ≡ frame_length p.size p.aad_bits p.bits
   -- which is 1,492 bytes at the most
   pub longest : (p : Parts) → Fits p → length (layout p) ≤ 1492
+  -- a frame of bytes is bytes
+  pub octets : (p : Parts) → Fits p → Octets p.aad → Octets p.ciphertext → Octets p.tag → Octets (layout p)

@@ -5,7 +5,8 @@
 //! first.
 #![tactic(auto)]
 
-ghost use Rattle.std.specs.Prelude.{◌≡◌, ℕ, ◌+◌, ◌≤◌, length};
+ghost use Rattle.std.specs.Prelude.{◌≡◌, ℕ, ◌+◌, ◌≤◌, IfOk, length};
+ghost use Rattle.units.specs.Lengths.{filled};
 ghost use Rattle.units.specs.Refusals.{told};
 ghost use Rattle.units.specs.Strings.{four_at, two_at};
 ghost use Rattle.frames.specs.Frames.{FitsIn, FramesStand, broken, frame_length, head, parsed, viewed};
@@ -60,6 +61,7 @@ impl<'a> Frame<'a> {
     pub fn parse(bytes: &'a [u8]) -> Result<Frame<'a>, Refusal>
         ensures parts { viewed result ≡ parsed bytes.entry.now }
         ensures fits { FitsIn result }
+        ensures within { IfOk result (λ p. 12 + filled p.aad.bits.0 ≤ length bytes.entry.now) }
     {
         broken_if(bytes.len() < HEAD, bytes.len() as u64)?;
         broken_if(bytes[0] != MARK[0], 0)?;

@@ -1,18 +1,17 @@
 -- What the cover's answer says of the open.
-use Rattle.std.proofs.Common.{◌≡◌, ℕ, ◌+◌, ◌≤◌, false, List, ◌++◌, length, take, drop, Some, None, Err, Option, Result, refl, sym, ap, ◌∙◌, arith, take-append-drop}
+use Rattle.std.proofs.Common.{◌≡◌, ℕ, ◌≤◌, false, List, ◌++◌, length, take, drop, Some, None, Err, Option, Result, refl, sym, ap, ◌∙◌, arith, take-append-drop}
 use Rattle.std.proofs.lemmas.Bool.Decides.{nat_tests}
 use Rattle.units.specs.Lengths.{filled}
-use Rattle.units.specs.Refusals.{told, unless, ◌⊳◌}
-use Rattle.units.specs.Strings.{Octets}
+use Rattle.units.specs.Refusals.{told}
 use Rattle.units.specs.declared.refusals.Refusal.{Refusal}
 use Rattle.generator.specs.Generators.{Meaning}
 use Rattle.cover.specs.Answers.{Written, outcome, written}
 use Rattle.cover.specs.Combined.{open_refusal}
 use Rattle.windows.specs.Windows.{after, count_refusal, mark, mark_unless}
 use Rattle.windows.specs.declared.Window.{Window}
-use Rattle.frames.specs.Frames.{Fits, FramesStand, Parts, frame_length, parts}
+use Rattle.frames.specs.Frames.{Fits, Parts}
 use Rattle.link.specs.Answers.{over}
-use Rattle.link.specs.Opens.{WellFormed, other_link, spare_set, tag_refusal}
+use Rattle.link.specs.Opens.{other_link, spare_set, tag_refusal}
 use Rattle.link.specs.Settings.{Lawful, parameters}
 use Rattle.link.specs.declared.settings.Terms.{Terms}
 
@@ -51,20 +50,7 @@ written_over n None answer out after buffer e h =
 written_over n (Some r) answer out after buffer e h =
     (λ i. outcome (h i).answer ((h i).output ++ drop n buffer)) ∙ ap (outcome (Err r)) (take-append-drop n buffer)
 
--- the first test of two was not met
-fst_none : (a b : Option Refusal) → (a ⊳ b) ≡ None → a ≡ None
-fst_none None b h = refl
-fst_none (Some r) b h = absurd (cc)
-
--- the AAD of a well-formed frame is within the frame
-pub aad_within : FramesStand → (s : Terms) (f : List ℕ) (p : Parts) → Octets f → WellFormed s f → p ≡ parts f → 12 + filled p.aad_bits ≤ length f
-unfolding frame_length
-aad_within frames s f p o formed is =
-    let told = frames.own f (parts f) o (ap (λ (r : Option Refusal). unless r (parts f)) (fst_none _ _ formed)) in
-    let total = sym (ap length told.0) ∙ frames.long (parts f) told.1 in
-    rw is (omega (arith, total))
-
--- and its message is within a buffer for the longest
+-- the message of a well-formed frame is within a buffer for the longest
 pub message_within : (p : Parts) (buffer : List ℕ) → Fits p → 1400 ≤ length buffer → filled p.bits ≤ length buffer
 unfolding filled
 message_within p buffer fits room = omega (arith, fits.bits, room)

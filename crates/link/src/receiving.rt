@@ -107,7 +107,6 @@ fn well_formed<'a>(terms: &Terms, frame: &'a [u8]) -> Result<Frame<'a>, Refusal>
     ensures fits { FitsIn result }
     ensures aad { IfOk result (λ p. 12 + filled p.aad.bits.0 ≤ length frame.entry.now) }
 {
-    frames::laws();
     let parts = Frame::parse(frame)?;
     refuse_if(
         parts.line != terms.line() || parts.tag_size != terms.tag_size,

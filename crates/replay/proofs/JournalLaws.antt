@@ -8,8 +8,9 @@ use Rattle.windows.specs.declared.Window.{Window}
 use Rattle.frames.specs.Frames.{parts}
 use Rattle.link.specs.Opens.{OpenCall, open_by, open_refusal, opened}
 use Rattle.link.specs.Seals.{seal_by, seal_refusal, sealed}
-use Rattle.link.specs.Settings.{parameters}
+use Rattle.link.specs.Settings.{Lawful, parameters}
 use Rattle.link.specs.declared.settings.Terms.{Terms}
+use Rattle.replay.specs.Layers.{Layers}
 use Rattle.replay.specs.Runs.{Call, Event, OpenEvent, SealEvent, asked, loss_figure, losing, open_event, open_frame, opening, play, seal, seal_event, sealing, stepped}
 use Rattle.replay.specs.Laws.{SameTerms, counts_in, counts_opened, frames_in, frames_sealed}
 use Rattle.replay.specs.RoundTrip.{count_after}
@@ -55,7 +56,7 @@ opened_shared m s r w c t =
     ap (λ (x : Option Refusal). open_by x m r w c) (refusal_shared m s r w c t) ∙ open_by_shared (open_refusal m s w c) m s r w c t
 
 -- ends of the same terms, whose generators mean the same
-module _ (m k : Meaning) (alike : Same m k) (s r : Terms) (shared : SameTerms s r) (first : ℕ) where
+module _ (layers : Layers) (m k : Meaning) (alike : Same m k) (s r : Terms) (lawful : Lawful s) (shared : SameTerms s r) (first : ℕ) where
   pub play_follows : (journal : List Event) (next : ℕ) (w : Window) (done : List ℕ) (cs : List Call)
       → w ≡ marked (new_window first) done
       → Follows m s first next done (play m k s r journal next w cs)
@@ -68,7 +69,7 @@ module _ (m k : Meaning) (alike : Same m k) (s r : Terms) (shared : SameTerms s 
       let t = stepped m k s r journal next w (open_frame work frame buffer) in
       let o = opened k r w c in (
         ap (open_event c)
-            (opened_shared k s r w c shared ∙ opened_same m k alike s w c ∙ ap (λ (v : Window). opened m s v c) e),
+            (opened_shared k s r w c shared ∙ opened_same layers m k alike s w c lawful ∙ ap (λ (v : Window). opened m s v c) e),
         play_follows (journal ++ (t.event ∷ [])) next o.window (done ++ counts_in o.answer) cs
             (window_after (open_refusal k r w c) k r first done w c e),
       )

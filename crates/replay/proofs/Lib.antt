@@ -1,7 +1,7 @@
 pub mod Follows
+pub mod SealedLaws
 pub mod SameMeaning
 pub mod JournalLaws
-pub mod SealedLaws
 pub mod DecidesLaws
 pub mod ReturnLaws
 pub mod PlaceLaws

@@ -1,46 +1,28 @@
 -- Where callers hand over bytes, each frame that is sealed or offered is bytes.
 use Rattle.std.proofs.Common.{◌≡◌, ℕ, zero, suc, ◌/◌, ◌<◌, List, [], ◌∷◌, ◌++◌, Ok, Err, None, Result, sym, refl, subst, arith}
-use Rattle.std.specs.Simd.Lanes.{digits_l}
 use Rattle.std.proofs.lemmas.Nat.{xor_lt}
 use Rattle.units.specs.Strings.{Octets}
 use Rattle.units.specs.declared.lengths.Bytes.{Bytes}
 use Rattle.units.specs.declared.refusals.Refusal.{Refusal}
 use Rattle.units.proofs.SpareLaws.{Octets-cleared}
-use Rattle.units.proofs.StringLaws.{Octets-take}
-use Rattle.field.specs.Blocks.{block_bytes}
-use Rattle.field.specs.Tags.{tag, whole_tag}
 use Rattle.generator.specs.Generators.{Meaning, Sound}
 use Rattle.cover.specs.Combined.{ciphertext_of, instance_nonce, stream_nonce}
-use Rattle.cover.specs.Tags.{key_h, key_p, key_q, tag_under}
-use Rattle.cover.proofs.KeystreamLaws.{Octets-covered}
 use Rattle.windows.specs.declared.Window.{Window}
-use Rattle.frames.proofs.FrameLaws.{Octets-layout}
 use Rattle.link.specs.Seals.{SealCall, seal_refusal, sealed, sealed_frame, sealed_parts}
 use Rattle.link.specs.Settings.{Lawful, parameters}
 use Rattle.link.specs.declared.settings.Terms.{Terms}
 use Rattle.replay.specs.Asked.{CallOctets, CallsOctets, OctetsOffered}
+use Rattle.replay.specs.Layers.{Layers}
 use Rattle.replay.specs.Runs.{Call, Event, Offered, SealEvent, bytes, changed, damaged, frame_at, frame_of, frame_offered, loss_figure, open_frame, play, seal, seal_event, sealed_by, sealing, stepped, whole}
 use Rattle.replay.proofs.Follows.{AllAsked}
-use Rattle.replay.proofs.SealedLaws.{made, seal_passed, sealed_fits}
+use Rattle.replay.proofs.SealedLaws.{coverable, made, seal_passed, sealed_fits}
 
 -- ---- a sealed frame
 
 Octets-none : Octets []
 Octets-none k = omega arith
 
-Octets-digits : (n v : ℕ) → Octets (digits_l 256 n v)
-Octets-digits zero v k = omega arith
-Octets-digits (suc n) v zero = omega arith
-Octets-digits (suc n) v (suc k) = Octets-digits n (v / 256) k
-
-Octets-tag : (m : Meaning) (n : List ℕ) (t aad_bits : ℕ) (aad : List ℕ) (bits : ℕ) (ciphertext : List ℕ)
-    → Octets (tag_under m n t aad_bits aad bits ciphertext)
-unfolding tag_under tag block_bytes
-Octets-tag m n t aad_bits aad bits ciphertext =
-    let v = whole_tag (key_h m n) (key_q m n) (key_p m n) aad_bits aad bits ciphertext in
-    Octets-take (digits_l 256 16 v) t (Octets-digits 16 v)
-
-module _ (m : Meaning) (sound : Sound m) (s : Terms) (lawful : Lawful s) where
+module _ (layers : Layers) (m : Meaning) (sound : Sound m) (s : Terms) (lawful : Lawful s) where
   -- the frame of an AAD and a message that are bytes
   Octets-sealed : (next : ℕ) (c : SealCall) → CallOctets (seal c) → seal_refusal m s next c ≡ None → Octets (sealed_frame m s next c)
   unfolding sealed_parts
@@ -49,10 +31,10 @@ module _ (m : Meaning) (sound : Sound m) (s : Terms) (lawful : Lawful s) where
       let p = parameters s next in
       let t = s.tag_size in
       let ciphertext = ciphertext_of m p t c.bits c.message in
-      Octets-layout (sealed_parts m s next c) (sealed_fits m s next c sound lawful accepted)
+      layers.frames.octets (sealed_parts m s next c) (sealed_fits layers m s next c sound lawful accepted)
       (Octets-cleared c.aad_bits c.aad given.0)
-      (Octets-covered m sound (stream_nonce t p) c.bits c.message passed.stream passed.message given.1)
-      (Octets-tag m (instance_nonce t p) t c.aad_bits c.aad c.bits ciphertext)
+      (layers.cover.covered.octets m (stream_nonce t p) c.bits c.message (coverable layers m s next c sound lawful passed) given.1)
+      (layers.cover.octets m (instance_nonce t p) t c.aad_bits c.aad c.bits ciphertext)
 
   -- whatever a seal answers
   Octets-seal : (next : ℕ) (c : SealCall) → CallOctets (seal c) → Octets (sealed_by (sealing (seal_event c (sealed m s next c))))
@@ -99,7 +81,7 @@ Octets-offered journal (damaged call place sum) all given =
 -- ---- a run
 
 -- only what is sealed has to be bytes, so the receiving end may mean anything
-module _ (m : Meaning) (sound : Sound m) (k : Meaning) (s : Terms) (lawful : Lawful s) (r : Terms) where
+module _ (layers : Layers) (m : Meaning) (sound : Sound m) (k : Meaning) (s : Terms) (lawful : Lawful s) (r : Terms) where
   pub play_asked : (journal : List Event) (next : ℕ) (w : Window) (cs : List Call) → FramesOctets journal → CallsOctets cs
       → AllAsked (play m k s r journal next w cs)
   play_asked journal next w [] all given = tt
@@ -107,7 +89,7 @@ module _ (m : Meaning) (sound : Sound m) (k : Meaning) (s : Terms) (lawful : Law
       let t = stepped m k s r journal next w (seal c) in (
         given.0,
         play_asked (journal ++ (t.event ∷ [])) t.next t.window cs
-            (frames_more journal t.event all (Octets-seal m sound s lawful next c given.0)) given.1,
+            (frames_more journal t.event all (Octets-seal layers m sound s lawful next c given.0)) given.1,
       )
   play_asked journal next w (open_frame work frame buffer ∷ cs) all given =
       let t = stepped m k s r journal next w (open_frame work frame buffer) in (

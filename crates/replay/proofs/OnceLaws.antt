@@ -8,8 +8,7 @@ use Rattle.units.specs.Different.{different}
 use Rattle.units.specs.declared.refusals.Refusal.{Refusal}
 use Rattle.units.proofs.DifferentLaws.{Apart, Apart-append, among-append, different_all}
 use Rattle.generator.specs.Generators.{Meaning}
-use Rattle.windows.proofs.WindowLaws.{is_in_new, window_tells}
-use Rattle.windows.specs.Windows.{count_refusal, is_in, marked, new_window}
+use Rattle.windows.specs.Windows.{WindowTells, count_refusal, is_in, marked, new_window}
 use Rattle.windows.specs.declared.Window.{Window}
 use Rattle.frames.specs.Frames.{parts}
 use Rattle.link.specs.Seals.{sealed}
@@ -59,14 +58,20 @@ New done c = is_in c done ≡ false
 abbrev Old : List ℕ → ℕ → Type 0
 Old done c = is_in c done ≡ true
 
-module _ (m : Meaning) (s : Terms) (first : ℕ) where
+-- the last of a list is in it
+is_in_last : (c : ℕ) (done : List ℕ) → is_in c (done ++ c ∷ []) ≡ true
+is_in_last c done =
+    let own : nat_eq c c ≡ true = (Decides-eqb c c).1 refl in
+    among-append nat_eq c done (c ∷ []) ∙ grind (arith, nat_tests, own)
+
+module _ (tells : WindowTells) (m : Meaning) (s : Terms) (first : ℕ) where
   -- the count of an accepted open was not opened before
   pub not_opened : (done : List ℕ) (o : OpenEvent) (a : Opened)
       → Admitted m s (marked (new_window first) done) o a
       → New done a.count
   not_opened done o a h =
-      ((window_tells.still first done a.count).0
-      (sym (window_tells.judged first done a.count) ∙ admitted_count m s (marked (new_window first) done) o a h)).fresh
+      ((tells.still first done a.count).0
+      (sym (tells.judged first done a.count) ∙ admitted_count m s (marked (new_window first) done) o a h)).fresh
 
   -- so what an open answers is new
   answer_new : (done : List ℕ) (o : OpenEvent) → o ≡ open_event o.asked (opened m s (marked (new_window first) done) o.asked)
@@ -114,7 +119,7 @@ module _ (m : Meaning) (s : Terms) (first : ℕ) where
       there (Err r) = All-nil (Old (done ++ []))
       there (Ok a) =
           All-cons (Old (done ++ a.count ∷ [])) a.count []
-          (is_in_new a.count a.count done refl)
+          (is_in_last a.count done)
           (All-nil (Old (done ++ a.count ∷ [])))
   counts_apart next done (losing n ∷ es) h = counts_apart next done es h
 

@@ -13,14 +13,13 @@ use Rattle.units.proofs.DifferentLaws.{Apart, Apart-append, among_none, differen
 use Rattle.units.proofs.StringLaws.{same_tells}
 use Rattle.generator.specs.Generators.{Meaning, Sound}
 use Rattle.nonces.specs.Nonces.{Alike, Fit, nonce}
-use Rattle.nonces.proofs.NonceLaws.{nonces_differ}
 use Rattle.cover.specs.Combined.{instance_nonce, stream_nonce}
 use Rattle.frames.specs.Frames.{Parts, parts}
-use Rattle.frames.proofs.FrameLaws.{frames_stand}
 use Rattle.link.specs.Keystream.{places}
 use Rattle.link.specs.Seals.{sealed, sealed_parts}
 use Rattle.link.specs.Settings.{Lawful, parameters}
 use Rattle.link.specs.declared.settings.Terms.{Terms}
+use Rattle.replay.specs.Layers.{Layers}
 use Rattle.replay.specs.Runs.{Event, sealing, opening, losing, SealEvent, seal_event}
 use Rattle.replay.specs.Laws.{DifferentTies, Place, PlacesCounted, counts_in, frames_in, frames_sealed, indices, places_asked, places_in, places_in_all, places_in_answer, places_used, same_place}
 use Rattle.replay.proofs.Follows.{Follows}
@@ -142,14 +141,14 @@ module _ (s : Terms) where
   from_later next later ps h g =
       record { placed = wider next later (2 ^ 32) (2 ^ 32) h (omega arith) ps g.placed; apart = g.apart }
 
-  module _ (lawful : Lawful s) where
+  module _ (layers : Layers) (lawful : Lawful s) where
     -- of two nonces with the same bytes all parts are the same
     same_nonce :
         (c d : ℕ) (i j : Bool) → c < 2 ^ 32 → d < 2 ^ 32
         → nonce s.tag_size true i (parameters s c) ≡ nonce s.tag_size true j (parameters s d)
         → Alike s.tag_size s.tag_size true true i j (parameters s c) (parameters s d)
     same_nonce c d i j h g =
-        nonces_differ s.tag_size s.tag_size true true i j (parameters s c) (parameters s d) (fit c h) (fit d g)
+        layers.nonces.differ s.tag_size s.tag_size true true i j (parameters s c) (parameters s d) (fit c h) (fit d g)
       where
         fit : (count : ℕ) → count < 2 ^ 32 → Fit s.tag_size (parameters s count)
         fit count h = record { size = lawful.largest; bearer = lawful.bearer; direction = lawful.direction; count = h }
@@ -198,13 +197,13 @@ module _ (s : Terms) where
           → places_in s (take n.0 e.buffer) ≡ places_for next e.asked.bits
       unfolding sealed_parts
       places_made next e n h =
-          ap (λ (p : Parts). places_for p.count p.bits) (made_parts frames_stand m s next e n sound lawful h)
+          ap (λ (p : Parts). places_for p.count p.bits) (made_parts layers m s next e n sound lawful h)
 
       -- as many as its bits ask for
       bits_made : (next : ℕ) (e : SealEvent) (n : Bytes) → Made m s next e n
           → places (parts (take n.0 e.buffer)).bits ≡ places e.asked.bits
       unfolding sealed_parts
-      bits_made next e n h = ap (λ (p : Parts). places p.bits) (made_parts frames_stand m s next e n sound lawful h)
+      bits_made next e n h = ap (λ (p : Parts). places p.bits) (made_parts layers m s next e n sound lawful h)
 
       from_seal : (next : ℕ) (e : SealEvent) (es : List Event) → e ≡ seal_event e.asked (sealed m s next e.asked)
           → ApartFrom (sealed m s next e.asked).next (places_used s es)
@@ -253,15 +252,15 @@ module _ (s : Terms) where
 
 -- no place of keystream is used twice
 pub keystream_once :
-    (m : Meaning) (s : Terms) (first : ℕ) → Sound m → Lawful s
+    Layers → (m : Meaning) (s : Terms) (first : ℕ) → Sound m → Lawful s
     → (next : ℕ) (done : List ℕ) (journal : List Event) → Follows m s first next done journal
     → length (places_used s journal) ≡ different same_place (places_used s journal)
-keystream_once m s first sound lawful next done journal h =
-    different_all same_place (places_used s journal) (all_apart s lawful m sound first next done journal h).apart
+keystream_once layers m s first sound lawful next done journal h =
+    different_all same_place (places_used s journal) (all_apart s layers lawful m sound first next done journal h).apart
 
 -- and as many are used as the accepted seals ask for
 pub keystream_counted :
-    (m : Meaning) (s : Terms) (first : ℕ) → Sound m → Lawful s
+    Layers → (m : Meaning) (s : Terms) (first : ℕ) → Sound m → Lawful s
     → (next : ℕ) (done : List ℕ) (journal : List Event) → Follows m s first next done journal
     → length (places_used s journal) ≡ places_asked journal
-keystream_counted m s first sound lawful = all_counted s lawful m sound first
+keystream_counted layers m s first sound lawful = all_counted s layers lawful m sound first

@@ -3,25 +3,24 @@ use Rattle.std.proofs.Common.{◌≡◌, ℕ, ◌≤◌, true, List, [], length,
 use Rattle.std.proofs.lemmas.Bool.Decides.{nat_tests}
 use Rattle.units.specs.Lengths.{filled}
 use Rattle.units.specs.Spare.{clear, cleared}
+use Rattle.units.proofs.SpareLaws.{clear-cleared}
 use Rattle.units.specs.declared.lengths.Bytes.{Bytes}
 use Rattle.generator.specs.Generators.{Meaning, Sound}
 use Rattle.cover.specs.Combined.{ciphertext_of, stream_nonce}
-use Rattle.cover.proofs.CoverLaws.{nca5_stands}
-use Rattle.cover.proofs.KeystreamLaws.{clear-cleared, clear-covered, covered_twice}
 use Rattle.windows.specs.Windows.{StillOpen}
-use Rattle.frames.proofs.FrameLaws.{frames_stand}
 use Rattle.frames.specs.Frames.{Fits, Parts, layout_refusal, parts}
 use Rattle.link.specs.Opens.{WellFormed, opened_message}
 use Rattle.link.specs.Seals.{SealCall, seal_refusal, sealed_frame, sealed_parts}
 use Rattle.link.specs.Settings.{Lawful, line, parameters}
 use Rattle.link.specs.declared.receiving.Opened.{Opened}
 use Rattle.link.specs.declared.settings.Terms.{Terms}
+use Rattle.replay.specs.Layers.{Layers}
 use Rattle.replay.specs.Runs.{Event, OpenEvent, SealEvent}
 use Rattle.replay.specs.Laws.{counts_opened}
 use Rattle.replay.specs.RoundTrip.{Returned, RoundTrip}
 use Rattle.replay.proofs.Follows.{Follows}
 use Rattle.replay.proofs.JournalLaws.{OpenedAfter, opened_in, sealed_in}
-use Rattle.replay.proofs.SealedLaws.{Made, made, parts-layout, seal_passed, sealed_fits}
+use Rattle.replay.proofs.SealedLaws.{Made, coverable, made, parts-layout, seal_passed, sealed_fits}
 use Rattle.replay.proofs.DecidesLaws.{Reached, accepted_right, message_told, numbers_told, right_tag}
 
 -- parts that an end accepts, where its tests come to them
@@ -49,26 +48,26 @@ record Own (m : Meaning) (s : Terms) (used : ℕ) (c : SealCall) (p : Parts) : T
   aad_is : p.aad ≡ cleared c.aad_bits c.aad
   message : opened_message m s p ≡ cleared c.bits c.message
 
-own : (m : Meaning) (sound : Sound m) (s : Terms) (lawful : Lawful s) (count : ℕ) (c : SealCall) → seal_refusal m s count c ≡ None
+own : Layers → (m : Meaning) (sound : Sound m) (s : Terms) (lawful : Lawful s) (count : ℕ) (c : SealCall) → seal_refusal m s count c ≡ None
     → Own m s count c (sealed_parts m s count c)
 unfolding sealed_parts
-own m sound s lawful count c accepted =
+own layers m sound s lawful count c accepted =
     let passed = seal_passed m s count c accepted in
     let p = parameters s count in
     let t = s.tag_size in
     record {
-      fits = sealed_fits m s count c sound lawful accepted;
+      fits = sealed_fits layers m s count c sound lawful accepted;
       line = refl;
       size = refl;
       aad = clear-cleared c.aad_bits c.aad;
-      ciphertext = clear-covered m (stream_nonce t p) c.bits c.message;
+      ciphertext = layers.cover.covered.spare m (stream_nonce t p) c.bits c.message;
       reached = record { keys = passed.keys; stream = passed.stream };
-      right = sym (nca5_stands.spare.aad m p t c.aad_bits c.aad c.bits (ciphertext_of m p t c.bits c.message));
+      right = sym (layers.cover.nca5.spare.aad m p t c.aad_bits c.aad c.bits (ciphertext_of m p t c.bits c.message));
       count = refl;
       bits = refl;
       aad_bits = refl;
       aad_is = refl;
-      message = covered_twice m sound (stream_nonce t p) c.bits c.message passed.stream passed.message;
+      message = layers.cover.covered.twice m (stream_nonce t p) c.bits c.message (coverable layers m s count c sound lawful passed);
     }
 
 -- the AAD of a frame is at byte 12
@@ -76,7 +75,7 @@ aad_at : (f : List ℕ) → take (filled (parts f).aad_bits) (drop 12 f) ≡ (pa
 unfolding parts
 aad_at f = refl
 
-module _ (m : Meaning) (sound : Sound m) (s : Terms) (lawful : Lawful s) (first : ℕ) where
+module _ (layers : Layers) (m : Meaning) (sound : Sound m) (s : Terms) (lawful : Lawful s) (first : ℕ) where
   -- an open of the frame that a seal made
   returned :
       (count : ℕ) (e : SealEvent) (n : Bytes) → Made m s count e n
@@ -87,12 +86,12 @@ module _ (m : Meaning) (sound : Sound m) (s : Terms) (lawful : Lawful s) (first 
       let c = e.asked in
       let f = o.asked.frame in
       let from : f ≡ sealed_frame m s count c = same ∙ made.frame in
-      let told = parts-layout frames_stand (sealed_parts m s count c) (sealed_fits m s count c sound lawful made.accepted) in
+      let told = parts-layout layers.frames (sealed_parts m s count c) (sealed_fits layers m s count c sound lawful made.accepted) in
       let a : Own m s count c (parts f) =
-      subst (Own m s count c) (sym (ap parts from ∙ told.1)) (own m sound s lawful count c made.accepted) in
+      subst (Own m s count c) (sym (ap parts from ∙ told.1)) (own layers m sound s lawful count c made.accepted) in
       let formed = formed_by s f (ap layout_refusal from ∙ told.0) a.line a.size a.aad a.ciphertext in
-      let opens = accepted_right m s first done o is (record { work = work; room = room; formed = formed }) a.reached in
-      let answer = numbers_told m s first done o is in
+      let opens = accepted_right layers m s first done o is (record { work = work; room = room; formed = formed }) a.reached in
+      let answer = numbers_told layers m s first done o is in
       let still = λ (k : ℕ). StillOpen first done k in
       record {
         carried = a.count;
@@ -106,7 +105,7 @@ module _ (m : Meaning) (sound : Sound m) (s : Terms) (lawful : Lawful s) (first 
             };
         message = λ x ok.
             ap (λ (y : Opened). take (filled y.bits.0) o.buffer) (answer x ok)
-            ∙ message_told m s first done o is sound a.reached a.fits (x, ok)
+            ∙ message_told layers m s first done o is sound lawful a.reached a.fits (x, ok)
             ∙ a.message;
         aad = λ x ok.
             ap (λ (y : Opened). take (filled y.aad_bits.0) (drop y.aad_place.0 f)) (answer x ok) ∙ aad_at f ∙ a.aad_is;

@@ -10,6 +10,7 @@ use Rattle.link.specs.declared.settings.Settings.{Settings}
 use Rattle.replay.specs.Asked.{CallOctets, CallsOctets}
 use Rattle.replay.specs.Journals.{played}
 use Rattle.replay.specs.declared.calls.Call.{Call}
+use Rattle.replay.specs.Layers.{Layers}
 use Rattle.replay.specs.Runs.{Ends, Event as Told, Call as Played, LeftBySome, Turn, ends, left, play, stepped}
 use Rattle.replay.proofs.SameMeaning.{stepped_same}
 
@@ -72,16 +73,16 @@ pub record Stepped (y z : Moment) (done : List Told) (c : Played) (e : Told) : T
 
 -- one call more
 pub running_more :
-    (x y z : Moment) (done : List Told) (all before rest cs : List Played) (c : Played) (e : Told)
+    Layers → (x y z : Moment) (done : List Told) (all before rest cs : List Played) (c : Played) (e : Told)
     → rest ≡ c ∷ cs
     → Running x y done all before rest
     → Stepped y z done c e
     → Running x z (done ++ (e ∷ [])) all (before ++ (c ∷ [])) cs
-running_more x y z done all before rest cs c e is run step =
+running_more layers x y z done all before rest cs c e is run step =
     let t = stepped x.m x.k x.s.terms x.r.terms done y.next y.window c in
     let same : stepped y.m y.k y.s.terms y.r.terms done y.next y.window c ≡ t =
     ap₂ (λ (s r : Settings). stepped y.m y.k s.terms r.terms done y.next y.window c) run.sender_settings run.receiver_settings
-    ∙ stepped_same x.m y.m x.k y.k x.s.terms x.r.terms done y.next y.window c run.sender_same run.receiver_same
+    ∙ stepped_same layers x.m y.m x.k y.k x.s.terms x.r.terms done y.next y.window c x.s.lawful x.r.lawful run.sender_same run.receiver_same
     in
     let event : e ≡ t.event = step.event ∙ ap (λ (u : Turn). u.event) same in
     let next_is : z.next ≡ t.next = step.next_is ∙ ap (λ (u : Turn). u.next) same in

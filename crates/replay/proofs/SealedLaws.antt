@@ -1,21 +1,36 @@
 -- What an accepted seal leaves: the frame of its parts.
-use Rattle.std.proofs.Common.{◌≡◌, ℕ, ◌+◌, ◌^◌, ◌<◌, ◌≤◌, List, length, take, drop, Ok, Some, None, Option, sym, refl, ap, ◌∙◌, arith, take_at}
+use Rattle.std.proofs.Common.{◌≡◌, ℕ, ◌+◌, ◌^◌, ◌<◌, ◌≤◌, true, false, List, length, take, drop, Ok, Some, None, Option, sym, refl, ap, ◌∙◌, arith, take_at}
 use Rattle.std.proofs.lemmas.Bool.Decides.{nat_tests}
 use Rattle.units.specs.Lengths.{begun, filled}
 use Rattle.units.specs.declared.lengths.Bytes.{Bytes}
 use Rattle.units.specs.declared.refusals.Refusal.{Refusal}
 use Rattle.units.proofs.RefusalLaws.{unless_ok}
 use Rattle.units.proofs.SpareLaws.{length-cleared}
-use Rattle.generator.specs.Generators.{Meaning, Sound}
+use Rattle.generator.specs.Generators.{IsNonce, Meaning, Sound}
+use Rattle.nonces.specs.Nonces.{nonce_refusal}
 use Rattle.cover.specs.Combined.{instance_nonce, stream_nonce, ciphertext_of}
-use Rattle.cover.proofs.CoverLaws.{length_tag}
-use Rattle.cover.proofs.KeystreamLaws.{length-covered}
+use Rattle.cover.specs.Laws.{Coverable}
 use Rattle.frames.specs.Frames.{Parts, Fits, FramesStand, layout, layout_refusal, parts}
 use Rattle.link.specs.Answers.{over}
 use Rattle.link.specs.Seals.{SealCall, seal_by, seal_refusal, sealed, sealed_frame, sealed_parts}
 use Rattle.link.specs.Settings.{Lawful, parameters}
 use Rattle.link.specs.declared.settings.Terms.{Terms}
+use Rattle.replay.specs.Layers.{Layers}
 use Rattle.replay.specs.Runs.{SealEvent, seal_event}
+
+-- ---- the nonces of a link
+
+-- lawful terms give a nonce to every count
+given : (s : Terms) (count : ℕ) → Lawful s → nonce_refusal (Some s.tag_size) (parameters s count) ≡ None
+given s count lawful = grind (arith, nat_tests, lawful.bearer, lawful.direction, lawful.smallest, lawful.largest)
+
+pub keys_is : Layers → (s : Terms) (count : ℕ) → Lawful s → IsNonce (instance_nonce s.tag_size (parameters s count))
+keys_is layers s count lawful = layers.nonces.twelve (Some s.tag_size) true true (parameters s count) (given s count lawful) lawful.extra_iv
+
+pub stream_is : Layers → (s : Terms) (count : ℕ) → Lawful s → IsNonce (stream_nonce s.tag_size (parameters s count))
+stream_is layers s count lawful = layers.nonces.twelve (Some s.tag_size) true false (parameters s count) (given s count lawful) lawful.extra_iv
+
+-- ---- an accepted seal
 
 -- what no test of an accepted seal meets
 pub record SealPassed (m : Meaning) (s : Terms) (next : ℕ) (c : SealCall) : Type 0 where
@@ -39,14 +54,20 @@ seal_passed m s next c accepted =
       stream = grind (arith, nat_tests, accepted);
     }
 
+-- the keystream reaches its message
+pub coverable : Layers → (m : Meaning) (s : Terms) (next : ℕ) (c : SealCall) → Sound m → Lawful s → SealPassed m s next c
+    → Coverable m (stream_nonce s.tag_size (parameters s next)) c.bits c.message
+coverable layers m s next c sound lawful passed =
+    record { sound = sound; nonce = stream_is layers s next lawful; enough = passed.stream; long = passed.message }
+
 -- the parts of an accepted seal are those of a frame
-pub sealed_fits : (m : Meaning) (s : Terms) (next : ℕ) (c : SealCall)
+pub sealed_fits : Layers → (m : Meaning) (s : Terms) (next : ℕ) (c : SealCall)
     → Sound m
     → Lawful s
     → seal_refusal m s next c ≡ None
     → Fits (sealed_parts m s next c)
 unfolding sealed_parts
-sealed_fits m s next c sound lawful accepted =
+sealed_fits layers m s next c sound lawful accepted =
     let passed = seal_passed m s next c accepted in
     let p = parameters s next in
     let ciphertext = ciphertext_of m p s.tag_size c.bits c.message in
@@ -58,8 +79,8 @@ sealed_fits m s next c sound lawful accepted =
       aad_bits = passed.aad_bits;
       bits = passed.bits;
       aad = length-cleared c.aad_bits c.aad ∙ passed.aad;
-      ciphertext = length-covered m sound (stream_nonce s.tag_size p) c.bits c.message passed.stream passed.message;
-      tag = length_tag m (instance_nonce s.tag_size p) s.tag_size c.aad_bits c.aad c.bits ciphertext lawful.largest;
+      ciphertext = layers.cover.covered.long m (stream_nonce s.tag_size p) c.bits c.message (coverable layers m s next c sound lawful passed);
+      tag = layers.cover.long m (instance_nonce s.tag_size p) s.tag_size c.aad_bits c.aad c.bits ciphertext lawful.largest;
     }
 
 -- the bytes that are written over a buffer are at its start
@@ -74,13 +95,13 @@ parts-layout stand p fits =
     (told.0, sym told.1)
 
 -- the frame of an accepted seal has the parts that were sealed
-pub sealed_parts_again : FramesStand → (m : Meaning) (s : Terms) (next : ℕ) (c : SealCall)
+pub sealed_parts_again : Layers → (m : Meaning) (s : Terms) (next : ℕ) (c : SealCall)
     → Sound m
     → Lawful s
     → seal_refusal m s next c ≡ None
     → parts (sealed_frame m s next c) ≡ sealed_parts m s next c
-sealed_parts_again stand m s next c sound lawful accepted =
-    (parts-layout stand (sealed_parts m s next c) (sealed_fits m s next c sound lawful accepted)).1
+sealed_parts_again layers m s next c sound lawful accepted =
+    (parts-layout layers.frames (sealed_parts m s next c) (sealed_fits layers m s next c sound lawful accepted)).1
 
 -- ---- of an event that is a seal
 
@@ -108,13 +129,13 @@ made m s next e n is ok =
     record { accepted = told.0; frame = ap (λ (x : SealEvent). take n.0 x.buffer) is ∙ told.1; after = told.2 }
 
 -- the parts of its frame
-pub made_parts : FramesStand → (m : Meaning) (s : Terms) (next : ℕ) (e : SealEvent) (n : Bytes)
+pub made_parts : Layers → (m : Meaning) (s : Terms) (next : ℕ) (e : SealEvent) (n : Bytes)
     → Sound m
     → Lawful s
     → Made m s next e n
     → parts (take n.0 e.buffer) ≡ sealed_parts m s next e.asked
-made_parts stand m s next e n sound lawful h =
-    ap parts h.frame ∙ sealed_parts_again stand m s next e.asked sound lawful h.accepted
+made_parts layers m s next e n sound lawful h =
+    ap parts h.frame ∙ sealed_parts_again layers m s next e.asked sound lawful h.accepted
 
 -- no call takes the next count back
 pub next_le : (m : Meaning) (s : Terms) (next : ℕ) (c : SealCall) → next ≤ (sealed m s next c).next

@@ -1,4 +1,5 @@
 pub mod Runs
+pub mod Layers
 pub mod Asked
 pub mod Laws
 pub mod RoundTrip

@@ -5,6 +5,7 @@ ghost use Rattle.link.specs.Seals.{sealed};
 ghost use Rattle.link.specs.Opens.{opened};
 ghost use Rattle.replay.specs.Asked.{CallOctets, CallsOctets, OctetsOffered};
 ghost use Rattle.replay.specs.EveryRun.{LinkLaws};
+ghost use Rattle.replay.specs.Layers.{Layers};
 ghost use Rattle.replay.specs.Journals.{named, open_told, played, seal_call, seal_told, told};
 ghost use Rattle.replay.specs.Laws.{DifferentTies, PlacesCounted};
 ghost use Rattle.replay.specs.Runs.{LeftBySome, asked, changed, ends, frame_at, frame_offered, left, open_event, play, seal_event, sealed_by, stepped};
@@ -38,6 +39,8 @@ pub fn replay<G: Generator, K: Generator>(
     ensures different { DifferentTies }
     ensures places { PlacesCounted }
 {
+    link_laws(sender, receiver);
+    layers();
     octets_asked(calls);
     let mut journal = Vec::new(heap);
     for call in calls {
@@ -45,6 +48,23 @@ pub fn replay<G: Generator, K: Generator>(
         journal.push(event)?;
     }
     Ok(journal)
+}
+
+/// For a proof alone: what the layers below promise.
+fn layers()
+    ensures { Layers }
+{
+    nonces::laws();
+    cover::laws();
+    windows::laws();
+    frames::laws();
+}
+
+/// For a proof alone: of the two ends of a link the laws hold, whatever is called on them.
+fn link_laws<G: Generator, K: Generator>(sender: &Sender<G>, receiver: &Receiver<K>)
+    ensures { LinkLaws (G.meaning sender.now.generator) (K.meaning receiver.now.generator) sender.now.settings receiver.now.settings sender.now.next receiver.now.window }
+{
+    layers();
 }
 
 /// For the proof alone: it tells that what callers hand over is bytes, which no type tells of what a vector holds.

@@ -285,3 +285,13 @@ module _ (n : ℕ) (xs : List ℕ) where
   -- testing, from what it answers
   pub clear_told : (b : Bool) → b ≡ clear n xs → Decides b ((i : ℕ) → n ≤ i → bit_at xs i ≡ 0)
   clear_told b e = Decides-at b (clear n xs) e (clear_tells n xs)
+
+-- what is cleared is clear
+pub clear-cleared : (n : ℕ) (xs : List ℕ) → clear n (cleared n xs) ≡ true
+clear-cleared n xs =
+    (clear_told n (cleared n xs) (clear n (cleared n xs)) refl).1
+    (λ i h. cleared_told n xs (cleared n xs) refl i ∙ cond-false (ltb i n) (bit_at xs i) 0 (le-ltb i n h))
+
+-- clearing again changes nothing
+pub cleared_again : (n : ℕ) (xs : List ℕ) → cleared n (cleared n xs) ≡ cleared n xs
+cleared_again n xs = (same_tells (cleared n (cleared n xs)) (cleared n xs)).0 (clear-cleared n xs)

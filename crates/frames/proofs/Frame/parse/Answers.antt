@@ -21,4 +21,4 @@ returns c =
     let accepted : layout_refusal f ≡ None = grind (arith, nat_tests) in
     let same : read ≡ parts f = same_parts read (parts f) refl refl (cc) (cc) (cc) (cc) (cc) (cc) in
     let all = taken f read (λ k. omega (arith, c.type_inv.bytes k)) accepted same in
-    record { parts = all.0; fits = all.1 }
+    record { parts = all.0; fits = all.1; within = grind (arith, nat_tests) }

@@ -3,7 +3,6 @@ use Rattle.std.proofs.lemmas.List.{drop_all, map_push}
 use Rattle.replay.specs.Journals.{played, told}
 use Rattle.replay.specs.Runs.{ends, left}
 use Rattle.replay.specs.declared.calls.Call.{Call}
-use Rattle.replay.proofs.AllLaws.{link_laws}
 use Rattle.replay.proofs.RunLaws.{journal_is, left_by_some, left_more, left_so_far, moment, on_err, running_more, took_more}
 use Rattle.replay.proofs.run.replay.Goals as goal
 
@@ -22,7 +21,7 @@ loop-call-preserved g c =
     let event = c.in_ok-event.event in
     let pushed : vec_items c.push.new.self ≡ vec_items l.journal ++ (event ∷ []) = c.in_ok-push.ensures.items in
     rw (pushed, map_push told (vec_items l.journal) event, took_more calls i call (omega arith) c.call-item.is)
-    (running_more
+    (running_more c.layers.ensures
     (moment (m s.generator) (k r.generator) s.settings r.settings s.next r.window)
     (moment (m l.sender.generator) (k l.receiver.generator) l.sender.settings l.receiver.settings l.sender.next l.receiver.window)
     (moment (m s'.generator) (k r'.generator) s'.settings r'.settings s'.next r'.window)
@@ -63,27 +62,6 @@ returns-clause-ends g c =
     ∙ ap (λ (cs : List Call). left (m s.generator) (k r.generator) s.settings.terms r.settings.terms [] s.next r.window (map played cs))
     (take_all l.call-index calls (omega arith))
 
-pub returns-clause-laws : goal.returns-clause-laws
-returns-clause-laws g c =
-    let s = c.args.sender.now in
-    let r = c.args.receiver.now in
-    link_laws (g.G.Generator.meaning s.generator) (g.K.Generator.meaning r.generator) s.settings r.settings s.next r.window
-    (g.met.G.Generator.sound s.generator) s.settings.lawful
-
-pub returns-in_err-event-clause-laws : goal.returns-in_err-event-clause-laws
-returns-in_err-event-clause-laws g c =
-    let s = c.args.sender.now in
-    let r = c.args.receiver.now in
-    link_laws (g.G.Generator.meaning s.generator) (g.K.Generator.meaning r.generator) s.settings r.settings s.next r.window
-    (g.met.G.Generator.sound s.generator) s.settings.lawful
-
-pub returns-in_err-push-clause-laws : goal.returns-in_err-push-clause-laws
-returns-in_err-push-clause-laws g c =
-    let s = c.args.sender.now in
-    let r = c.args.receiver.now in
-    link_laws (g.G.Generator.meaning s.generator) (g.K.Generator.meaning r.generator) s.settings r.settings s.next r.window
-    (g.met.G.Generator.sound s.generator) s.settings.lawful
-
 -- memory ran out in a call: it was not made
 pub returns-in_err-event-clause-stopped : goal.returns-in_err-event-clause-stopped
 returns-in_err-event-clause-stopped g c =
@@ -117,7 +95,7 @@ returns-in_err-push-clause-stopped g c =
     let call = c.call-item.result in
     let event = c.in_ok-event.event in
     let run =
-    running_more
+    running_more c.layers.ensures
     (moment (m s.generator) (k r.generator) s.settings r.settings s.next r.window)
     (moment (m l.sender.generator) (k l.receiver.generator) l.sender.settings l.receiver.settings l.sender.next l.receiver.window)
     (moment (m s'.generator) (k r'.generator) s'.settings r'.settings s'.next r'.window)
