@@ -33,7 +33,7 @@ all_right key n first i cs blocks l h e f =
 pub aes_sound : (key : List ℕ) → EncryptsToBlocks key → Sound (aes_meaning key)
 aes_sound key encrypts =
     record {
-      near = λ n. omega arith;
-      sixteen = λ n i h. encrypts.sixteen (counter_block n i);
-      octets = λ n i h. encrypts.octets (counter_block n i);
+      near = λ n is. omega arith;
+      sixteen = λ n i is h. encrypts.sixteen (counter_block n i);
+      octets = λ n i is h. encrypts.octets (counter_block n i);
     }

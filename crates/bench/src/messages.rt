@@ -23,6 +23,7 @@ pub extern "C" fn bench_nea5(
 )
     ensures { output.new ≡ encrypted_turns turns key.now count bits input.now output.old }
 {
+    cover::laws();
     let mut generator = AesGenerator::new(&Key(*key));
     let mut work = [0; WORK_AREA];
     for turn in 0..turns {
@@ -54,6 +55,7 @@ pub extern "C" fn bench_nca5_cover(
     ensures ciphertext { ciphertext.new ≡ (covered_turns turns key.now count aad_bits aad.now bits message.now ciphertext.old tag.old).ciphertext }
     ensures tag { tag.new ≡ (covered_turns turns key.now count aad_bits aad.now bits message.now ciphertext.old tag.old).tag }
 {
+    cover::laws();
     let mut generator = AesGenerator::new(&Key(*key));
     let mut work = [0; WORK_AREA];
     let parameters = parameters(count);
@@ -88,6 +90,7 @@ pub extern "C" fn bench_nca5_open(
 )
     ensures { message.new ≡ opened_turns turns key.now count aad_bits aad.now bits ciphertext.now tag.now message.old }
 {
+    cover::laws();
     let mut generator = AesGenerator::new(&Key(*key));
     let mut work = [0; WORK_AREA];
     let parameters = parameters(count);

@@ -27,8 +27,8 @@ e_octets =
 pub flat_sound : FlatSound
 flat_sound =
     record {
-      near = λ n. omega arith;
-      sixteen = λ n i h. flat_each (λ (l : List ℕ). length l ≡ 16) refl refl refl n i;
-      octets = λ n i h.
+      near = λ n is. omega arith;
+      sixteen = λ n i is h. flat_each (λ (l : List ℕ). length l ≡ 16) refl refl refl n i;
+      octets = λ n i is h.
           flat_each Octets e_octets (Octets-replicate 16 0 (omega arith)) (Octets-replicate 16 0xFF (omega arith)) n i;
     }

@@ -68,9 +68,9 @@ sound_readable stands n xs o = go (ltb 65536 (length xs))
 pub sound : RecordingStands → (xs : List ℕ) → Octets xs → Sound (played xs)
 sound stands xs o =
     record {
-      near = λ n. omega (arith, (sound_readable stands n xs o).few);
-      sixteen = λ n i h. (sound_readable stands n xs o).sixteen i h;
-      octets = λ n i h. (sound_readable stands n xs o).octets i;
+      near = λ n is. omega (arith, (sound_readable stands n xs o).few);
+      sixteen = λ n i is h. (sound_readable stands n xs o).sixteen i h;
+      octets = λ n i is h. (sound_readable stands n xs o).octets i;
     }
 
 -- ---- the reading for a nonce

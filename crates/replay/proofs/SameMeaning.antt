@@ -18,7 +18,7 @@ use Rattle.link.specs.Opens.{OpenCall, OpenOutcome, frame_refusal, open_by, open
 use Rattle.link.specs.Seals.{SealCall, SealOutcome, seal_by, seal_outcome, seal_refusal, sealed, sealed_parts}
 use Rattle.link.specs.Settings.{Lawful, line, parameters}
 use Rattle.link.specs.declared.settings.Terms.{Terms}
-use Rattle.replay.proofs.SealedLaws.{keys_is, stream_is}
+use Rattle.replay.proofs.SealedLaws.{keys_is, seal_passed, stream_is}
 use Rattle.replay.specs.Layers.{Layers}
 use Rattle.replay.specs.Runs.{Call, Event, Turn, asked, loss_figure, open_event, open_frame, opening, play, seal, seal_event, sealing, stepped, turn}
 
@@ -57,12 +57,13 @@ module _ (layers : Layers) (m k : Meaning) (alike : Same m k) where
   parts_same : (s : Terms) (next : ℕ) (c : SealCall) → Lawful s → seal_refusal m s next c ≡ None → sealed_parts k s next c ≡ sealed_parts m s next c
   unfolding sealed_parts
   parts_same s next c lawful accepted =
+      let passed = seal_passed m s next c accepted in
       let p = parameters s next in
       let t = s.tag_size in
       let ciphertext : ciphertext_of k p t c.bits c.message ≡ ciphertext_of m p t c.bits c.message =
-      layers.cover.same.covered m k (stream_nonce t p) c.bits c.message alike (stream_is layers s next lawful) (grind (arith, nat_tests, accepted)) in
+      layers.cover.same.covered m k (stream_nonce t p) c.bits c.message alike (stream_is layers s next lawful) passed.stream in
       let tag = layers.cover.same.tag m k (instance_nonce t p) t c.aad_bits c.aad c.bits (ciphertext_of m p t c.bits c.message) alike
-      (keys_is layers s next lawful) (grind (arith, nat_tests, accepted))
+      (keys_is layers s next lawful) passed.keys
       in
       λ i.
       record {

@@ -22,7 +22,7 @@ loop-preserved c =
     let before_tag = c.args.tag.now in
     let more : covering c.nca5_cover.result c.nca5_cover.new.ciphertext c.nca5_cover.new.tag
     ≡ covered_turns (l.counter + 1) key c.args.count c.args.aad_bits c.args.aad.now c.args.bits c.args.message.now before before_tag =
-    covered_more key l.generator.aes.key _ l.counter _ _ _ _ _ _ _ before before_tag _ _ _ _ _ l.invariant.same l.invariant.work
+    covered_more c.laws.ensures.calls key l.generator.aes.key _ l.counter _ _ _ _ _ _ _ before before_tag _ _ _ _ _ l.invariant.same l.invariant.work
     c.parameters-parameters.ensures size l.invariant.ciphertext l.invariant.tag answered
     in
     record {

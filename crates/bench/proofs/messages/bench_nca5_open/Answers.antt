@@ -21,6 +21,6 @@ loop-preserved c =
       same = Same-trans (aes_meaning key) m (aes_meaning c.nca5_open.new.generator.aes.key) l.invariant.same c.nca5_open.ensures.same;
       work = search rules;
       message =
-          opened_more key l.generator.aes.key _ l.counter _ _ _ _ _ _ _ _ c.args.message.now _ _ _ l.invariant.same l.invariant.work
+          opened_more c.laws.ensures.calls key l.generator.aes.key _ l.counter _ _ _ _ _ _ _ _ c.args.message.now _ _ _ l.invariant.same l.invariant.work
           c.parameters-parameters.ensures size l.invariant.message answered;
     }

@@ -15,6 +15,6 @@ loop-turn-preserved c =
       same = Same-trans (aes_meaning key) m (aes_meaning c.nea5.new.generator.aes.key) l.invariant.same c.nea5.ensures.same;
       work = search rules;
       output =
-          encrypted_more key l.generator.aes.key _ _ _ _ _ _ _ _ _ _ l.invariant.same l.invariant.work
+          encrypted_more c.laws.ensures.calls key l.generator.aes.key _ _ _ _ _ _ _ _ _ _ l.invariant.same l.invariant.work
           c.parameters-parameters.ensures l.invariant.output answered;
     }
