@@ -1,5 +1,5 @@
 -- Where callers hand over bytes, each frame that is sealed or offered is bytes.
-use Rattle.std.proofs.Common.{◌≡◌, ℕ, zero, suc, ◌/◌, ◌<◌, List, [], ◌∷◌, ◌++◌, Ok, Err, None, Result, sym, refl, subst, arith}
+use Rattle.std.proofs.Common.{◌≡◌, ℕ, zero, suc, ◌<◌, List, [], ◌∷◌, ◌++◌, Ok, Err, None, Result, sym, refl, subst, arith}
 use Rattle.std.proofs.lemmas.Nat.{xor_lt}
 use Rattle.units.specs.Strings.{Octets}
 use Rattle.units.specs.declared.lengths.Bytes.{Bytes}

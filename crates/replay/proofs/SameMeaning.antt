@@ -1,5 +1,5 @@
 -- Ends whose generators mean the same seal, open and go on alike.
-use Rattle.std.proofs.Common.{◌≡◌, ℕ, ◌+◌, ◌^◌, ◌||◌, List, [], ◌∷◌, ◌++◌, None, Some, Ok, Option, length, nat_lt, nat_le, not, refl, ap, ◌∙◌, arith}
+use Rattle.std.proofs.Common.{◌≡◌, ℕ, ◌+◌, ◌^◌, ◌||◌, List, None, Some, Ok, Option, length, nat_lt, nat_le, not, refl, ap, ◌∙◌, arith}
 use Rattle.std.proofs.lemmas.Bool.Decides.{nat_tests}
 use Rattle.units.specs.Lengths.{filled, unlike}
 use Rattle.units.specs.Refusals.{◌⊳◌}
@@ -20,7 +20,7 @@ use Rattle.link.specs.Settings.{Lawful, line, parameters}
 use Rattle.link.specs.declared.settings.Terms.{Terms}
 use Rattle.replay.proofs.SealedLaws.{keys_is, seal_passed, stream_is}
 use Rattle.replay.specs.Layers.{Layers}
-use Rattle.replay.specs.Runs.{Call, Event, Turn, asked, loss_figure, open_event, open_frame, opening, play, seal, seal_event, sealing, stepped, turn}
+use Rattle.replay.specs.Runs.{Call, Event, asked, loss_figure, open_event, open_frame, opening, seal, seal_event, sealing, stepped, turn}
 
 -- a later test counts where the earlier ones are not met
 later_same : (a b b' : Option Refusal) → (a ≡ None → b' ≡ b) → (a ⊳ b') ≡ (a ⊳ b)
