@@ -43,7 +43,7 @@ const _: () = prove!(
 const HIGHEST_LINE: u8 = 63;
 
 /// The parts of a frame. `line` is BEARER * 2 + DIRECTION.
-#[derive(Clone, Copy, Debug)]
+#[derive(Clone, Copy)]
 pub struct Frame<'a> {
     pub line: u8,
     pub tag_size: u8,

@@ -30,8 +30,8 @@ pub fn clear_spare(bits: Bits, bytes: &mut [u8])
 }
 
 /// A byte string and its length in bits. Where there are more bytes than the bits fill, all bits of the further bytes are
-/// spare; where there are fewer, no bit is.
-#[derive(Clone, Copy, Debug)]
+/// spare; where there are fewer, no bit is. It may hold a message, which is secret, so it has neither `Debug` nor equality.
+#[derive(Clone, Copy)]
 pub struct BitString<'a> {
     pub bits: Bits,
     pub bytes: &'a [u8],
