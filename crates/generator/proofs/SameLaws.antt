@@ -1,4 +1,4 @@
--- That to mean the same is an equivalence: plain facts of a relation, which proofs of other layers cite too.
+-- That to mean the same is reflexive and transitive: plain facts of a relation, which proofs of other layers cite too.
 use Rattle.std.proofs.Common.{refl, ◌∙◌, arith}
 use Rattle.generator.specs.Generators.{Meaning, Same}
 
