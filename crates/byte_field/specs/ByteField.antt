@@ -36,7 +36,8 @@ squares (suc n) b = let s = mul b b in mul s (squares n s)
 unfoldable pub inverse : ℕ → ℕ
 inverse b = squares 7 b
 
--- the laws of the bytes: the product is the polynomials' one, reduced, and additive; 1 is its one, 2 is x, a byte times its inverse is 1
+-- the laws of the bytes: the product is the polynomials' one, reduced, and additive; 1 is its one, 2 is x, and a byte times its
+-- inverse is 1
 pub record ByteFieldStands : Type 0 where
   pub product_is : (a b : ℕ) → a < 256 → b < 256 → Reduced a b (mul a b)
   pub additive_left : (a b c : ℕ) → mul (a ⊕ b) c ≡ mul a c ⊕ mul b c

@@ -25,11 +25,21 @@ pub record CoveredStands : Type 0 where
   -- its spare bits are clear
   pub spare : (m : Meaning) (n : List ℕ) (bits : ℕ) (text : List ℕ) → clear bits (covered m n bits text) ≡ true
   -- it is as long as before
-  pub long : (m : Meaning) (n : List ℕ) (bits : ℕ) (text : List ℕ) → Coverable m n bits text → length (covered m n bits text) ≡ filled bits
+  pub long :
+      (m : Meaning) (n : List ℕ) (bits : ℕ) (text : List ℕ)
+      → Coverable m n bits text
+      → length (covered m n bits text) ≡ filled bits
   -- it is bytes
-  pub octets : (m : Meaning) (n : List ℕ) (bits : ℕ) (text : List ℕ) → Coverable m n bits text → Octets text → Octets (covered m n bits text)
+  pub octets :
+      (m : Meaning) (n : List ℕ) (bits : ℕ) (text : List ℕ)
+      → Coverable m n bits text
+      → Octets text
+      → Octets (covered m n bits text)
   -- covered twice, it is as before, its spare bits cleared
-  pub twice : (m : Meaning) (n : List ℕ) (bits : ℕ) (text : List ℕ) → Coverable m n bits text → covered m n bits (covered m n bits text) ≡ cleared bits text
+  pub twice :
+      (m : Meaning) (n : List ℕ) (bits : ℕ) (text : List ℕ)
+      → Coverable m n bits text
+      → covered m n bits (covered m n bits text) ≡ cleared bits text
   -- another ciphertext as long uncovers to the text plus the difference of the two
   pub other :
       (m : Meaning) (n : List ℕ) (bits : ℕ) (text other : List ℕ)
@@ -82,12 +92,14 @@ pub record SameCalls : Type 0 where
       (m m' : Meaning) (work : ℕ) (p : Parameters) (t aad_bits : ℕ) (aad : List ℕ) (bits : ℕ) (message ciphertext tag : List ℕ)
       → Same m m'
       → Octets (extra_bytes p.extra_iv)
-      → nca5_cover m' work p t aad_bits aad bits message ciphertext tag ≡ nca5_cover m work p t aad_bits aad bits message ciphertext tag
+      → nca5_cover m' work p t aad_bits aad bits message ciphertext tag
+      ≡ nca5_cover m work p t aad_bits aad bits message ciphertext tag
   pub opens :
       (m m' : Meaning) (work : ℕ) (p : Parameters) (t aad_bits : ℕ) (aad : List ℕ) (bits : ℕ) (ciphertext tag message : List ℕ)
       → Same m m'
       → Octets (extra_bytes p.extra_iv)
-      → nca5_open m' work p t aad_bits aad bits ciphertext tag message ≡ nca5_open m work p t aad_bits aad bits ciphertext tag message
+      → nca5_open m' work p t aad_bits aad bits ciphertext tag message
+      ≡ nca5_open m work p t aad_bits aad bits ciphertext tag message
 
 -- what holds of the cover
 pub record CoverLaws : Type 0 where

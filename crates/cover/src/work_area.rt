@@ -25,8 +25,8 @@ pub(crate) const P: usize = 32;
 /// Where the current block of keystream stands, and the tag while it is made, copied or compared.
 pub(crate) const CURRENT: usize = 48;
 
-/// A guard over the caller's bytes, of whatever length. All of them are zero once it is dropped, on whatever way: so no layer
-/// above can put other bytes in their place, and it covers and opens by the guard's own calls.
+/// A guard over the caller's bytes, of whatever length. All of them are zero once it is dropped, on whatever way. The field is
+/// the cover's own, so that no layer above can put other bytes in its place; it covers and opens by the guard's own calls.
 pub struct WorkArea<'a> {
     pub(crate) bytes: &'a mut [u8],
 }

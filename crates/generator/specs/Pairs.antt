@@ -12,4 +12,7 @@ pub record PairStands : Type 0 where
   -- it means the same with its halves the other way round
   pub turned : (a b : Meaning) → Same (both a b) (both b a)
   -- two halves that mean the same give sixteen zero bytes for every block, and nothing detects it
-  pub alike : (a b : Meaning) → Sound a → Same a b → (n : List ℕ) (i : ℕ) → IsNonce n → i < (both a b).reach n → (both a b).block n i ≡ replicate 16 0
+  pub alike :
+      (a b : Meaning) → Sound a → Same a b
+      → (n : List ℕ) (i : ℕ) → IsNonce n → i < (both a b).reach n
+      → (both a b).block n i ≡ replicate 16 0

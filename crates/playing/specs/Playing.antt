@@ -27,7 +27,10 @@ played xs =
 -- what holds of every playback
 pub record PlaybackStands : Type 0 where
   -- of records that are written one after another, and then bytes with which no record begins, each record is played
-  pub damaged : (es : List Entry) (rest : List ℕ) → AllByRecursion WellFormed es → Octets rest → NoRecord rest → length (flat_map written es ++ rest) ≤ 65536 → readable (flat_map written es ++ rest) ≡ es
+  pub damaged :
+      (es : List Entry) (rest : List ℕ) → AllByRecursion WellFormed es → Octets rest → NoRecord rest
+      → length (flat_map written es ++ rest) ≤ 65536
+      → readable (flat_map written es ++ rest) ≡ es
   -- so of records alone each is played
   pub whole : (es : List Entry) → AllByRecursion WellFormed es → length (flat_map written es) ≤ 65536 → readable (flat_map written es) ≡ es
   -- of more than 65,536 bytes none is played

@@ -112,7 +112,8 @@ pub record Tells (used : ℕ) (c : SealCall) (a : Opened) : Type 0 where
   pub aad_bits : a.aad_bits.0 ≡ c.aad_bits
 
 -- the frame a of the seal c, and the frame b offered to the open o, after the counts in `before` were opened
-pub record Decided (m : Meaning) (s : Terms) (first : ℕ) (before : List ℕ) (a : Parts) (c : SealCall) (b : Parts) (o : OpenEvent) : Type 0 where
+pub record Decided (m : Meaning) (s : Terms) (first : ℕ) (before : List ℕ) (a : Parts) (c : SealCall) (b : Parts)
+    (o : OpenEvent) : Type 0 where
   -- the sealed frame carries the numbers of the message and of the AAD
   pub carried : (a.bits ≡ c.bits) × (a.aad_bits ≡ c.aad_bits)
   pub accepted : Accepted o ↔ (StillOpen first before b.count × TagsAgree m s a b)
