@@ -1,5 +1,5 @@
 -- Decoding pair by pair, and reading back what is written of bytes.
-use Rattle.std.proofs.Common.{◌≡◌, ℕ, zero, suc, ◌+◌, ◌*◌, ◌/◌, ◌%◌, ◌<◌, ◌≤◌, Bool, true, false, ◌&&◌, is_some, List, [], ◌∷◌, ◌++◌, length, get_or, drop, Some, None, Option, sym, refl, ap, ◌∙◌, append_assoc, append-nil, arith}
+use Rattle.std.proofs.Common.{◌≡◌, ℕ, zero, suc, ◌+◌, ◌*◌, ◌/◌, ◌%◌, ◌<◌, ◌≤◌, Bool, false, ◌&&◌, is_some, List, [], ◌∷◌, ◌++◌, length, get_or, drop, Some, None, Option, sym, refl, ap, ◌∙◌, append_assoc, append-nil, arith}
 use Rattle.std.proofs.lemmas.List.{at_drop_more, at_drop_all}
 use Rattle.std.proofs.lemmas.Bool.Decides.{nat_tests}
 use Rattle.std.specs.Char.{digit_char}
@@ -51,7 +51,7 @@ pub paired_some : (pairs : List (List ℕ)) → list_all (λ p. is_some (pair_by
 paired_some [] = refl
 paired_some (p ∷ ps) = ap (λ (b : Bool). is_some (pair_byte p) && b) (paired_some ps) ∙ both (pair_byte p) (paired ps)
 
-decoded-pairs : (k : ℕ) (text : List ℕ) → length text ≡ k * 2 → paired (first_chunks 2 k text) ≡ decoded text
+pub decoded-pairs : (k : ℕ) (text : List ℕ) → length text ≡ k * 2 → paired (first_chunks 2 k text) ≡ decoded text
 decoded-pairs zero [] h = refl
 decoded-pairs zero (a ∷ text) h = absurd (omega arith)
 decoded-pairs (suc k) [] h = absurd (omega arith)
@@ -81,10 +81,8 @@ after_none (Some more) = refl
 after_none None = refl
 
 -- where no pair is decoded yet
-pub pairs_start : (text : List ℕ) (pairs : List (List ℕ)) → pairs ≡ first_chunks 2 (length text / 2) text → is_some (decoded text) ≡ true → after [] (paired pairs) ≡ decoded text
-pairs_start text pairs cut some =
-    let even : length text % 2 ≡ 0 = grind (arith, decoded_odd text) in
-    after_none (paired pairs) ∙ ap paired cut ∙ pairs-decoded text even
+pub pairs_start : (text : List ℕ) (pairs : List (List ℕ)) → pairs ≡ first_chunks 2 (length text / 2) text → length text % 2 ≡ 0 → after [] (paired pairs) ≡ decoded text
+pairs_start text pairs cut even = after_none (paired pairs) ∙ ap paired cut ∙ pairs-decoded text even
 
 digit_read : (d : ℕ) → d < 16 → digit (digit_char d) ≡ Some d
 digit_read d h = grind (arith, nat_tests)

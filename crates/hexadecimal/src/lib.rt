@@ -70,6 +70,26 @@ fn is_hexadecimal(text: &str) -> bool
             .all(|[high, low]| byte_value(*high, *low).is_some())
 }
 
+/// The bytes that a text stands for, read in one go. Where memory fails, what comes after is not read, so that the text may
+/// still stand for none.
+#[tactic(auto, using(crate::proofs::HexLaws::decoding))]
+fn read(heap: Global, text: &str) -> Result<Vec<u8>, Fault>
+    ensures bytes { IfOk result (λ bytes. decoded text.now ≡ Some bytes.items) }
+    ensures text { IsErrOf result Text → decoded text.now ≡ None }
+    ensures memory { IsErrOf result Memory → 0 < length text.now }
+{
+    let (pairs, rest) = text.as_bytes().as_chunks::<2>();
+    if !rest.is_empty() {
+        return Err(Fault::Text);
+    }
+    let mut bytes = Vec::new(heap);
+    for [high, low] in pairs {
+        let byte = byte_value(*high, *low).ok_or(Fault::Text)?;
+        bytes.push(byte)?;
+    }
+    Ok(bytes)
+}
+
 /// The bytes that a text stands for. Want of memory is told only of a text that stands for some, and never of the empty one.
 #[tactic(auto, using(crate::proofs::HexLaws::decoding))]
 pub fn decode(heap: Global, text: &str) -> Result<Vec<u8>, Fault>
@@ -80,17 +100,11 @@ pub fn decode(heap: Global, text: &str) -> Result<Vec<u8>, Fault>
     ensures round_trip { (bytes : List ℕ) → All (λ b. b < 256) bytes → text.now ≡ written bytes
         → MatchResult result (λ read. read.items ≡ bytes) (λ fault. fault ≡ Memory) }
 {
-    if !is_hexadecimal(text) {
-        return Err(Fault::Text);
+    match read(heap, text) {
+        // Only here has the text to be read again, to its end.
+        Err(Fault::Memory) if !is_hexadecimal(text) => Err(Fault::Text),
+        answer => answer,
     }
-    let (pairs, _) = text.as_bytes().as_chunks::<2>();
-    let mut bytes = Vec::new(heap);
-    for [high, low] in pairs {
-        // The text has been judged, so each pair stands for a byte.
-        let byte = byte_value(*high, *low).unwrap();
-        bytes.push(byte)?;
-    }
-    Ok(bytes)
 }
 
 /// Bytes shown in hexadecimal, or `-` for none.
