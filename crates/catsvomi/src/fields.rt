@@ -4,9 +4,9 @@ use super::sources::{LineGenerator, SourceGenerator};
 use field::Block;
 use generator::{Key, Nonce};
 use hexadecimal::Fault;
-use indexmap::IndexMap;
 use nonces::ExtraIv;
 use std::alloc::{AllocError, Global};
+use std::collections::BTreeMap;
 use std::num::ParseIntError;
 use std::ops::RangeInclusive;
 use std::str::{FromStr, SplitWhitespace};
@@ -15,20 +15,27 @@ use units::{BitString, Bits, Refusal};
 /// The most bytes of a buffer whose size a field names.
 const MOST_ROOM: u32 = 65_536;
 
-/// The fields of a command that have not been taken yet, by their keys and in the order of the line.
+/// The value of a field, and how many fields stand before it in the line.
+#[derive(Clone, Copy)]
+struct Field<'a> {
+    place: usize,
+    value: &'a str,
+}
+
+/// The fields of a command that have not been taken yet, by their keys.
 #[derive(Drop)]
 pub struct Fields<'a> {
     heap: Global,
-    left: IndexMap<&'a str, &'a str>,
+    left: BTreeMap<&'a str, Field<'a>>,
 }
 
 impl<'a> Fields<'a> {
     /// Reads the words after the command's own; no key may be given twice.
     pub fn read(heap: Global, words: SplitWhitespace<'a>) -> Result<Fields<'a>, Unreadable<'a>> {
-        let mut left = IndexMap::new(heap);
-        for word in words {
+        let mut left = BTreeMap::new(heap);
+        for (place, word) in words.enumerate() {
             let (key, value) = word.split_once('=').ok_or(Unreadable::NoField(word))?;
-            if left.insert(key, value)?.is_some() {
+            if left.insert(key, Field { place, value })?.is_some() {
                 return Err(Unreadable::Twice(key));
             }
         }
@@ -37,7 +44,8 @@ impl<'a> Fields<'a> {
 
     /// Takes the value of a field.
     fn take(&mut self, key: &'static str) -> Result<&'a str, Unreadable<'a>> {
-        self.left.shift_remove(key).ok_or(Unreadable::Missing(key))
+        let field = self.left.remove(key).ok_or(Unreadable::Missing(key))?;
+        Ok(field.value)
     }
 
     /// Whether a field is there and has not been taken.
@@ -219,10 +227,11 @@ impl<'a> Fields<'a> {
         Ok(Vec::from_elem(self.heap, Block::ZERO, count)?)
     }
 
-    /// Ends the reading: no field may be left. What changes an end of the link does so only after this.
+    /// Ends the reading: no field may be left; the first of the line that is left is named. What changes an end of the link does
+    /// so only after this.
     pub fn end(&self) -> Result<(), Unreadable<'a>> {
-        match self.left.keys().next() {
-            Some(key) => Err(Unreadable::Unexpected(*key)),
+        match self.left.iter().min_by_key(|(_, field)| field.place) {
+            Some((key, _)) => Err(Unreadable::Unexpected(*key)),
             None => Ok(()),
         }
     }
