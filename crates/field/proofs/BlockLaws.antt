@@ -1,8 +1,9 @@
 -- Blocks and their polynomials.
-use Rattle.std.proofs.Common.{◌≡◌, ℕ, zero, suc, ◌+◌, ◌-◌, ◌*◌, ◌/◌, ◌%◌, ◌^◌, ◌<◌, ◌≤◌, List, [], ◌∷◌, ◌++◌, map, length, get_or, take, drop, replicate, sym, refl, ap, ◌∙◌, ap₂, le_refl, le_of_suc-le-suc, not-suc-le-zero, div-mul-le_self, arith, length-append, length-drop, length-take, drop-drop, bit_xor}
+use Rattle.std.proofs.Common.{◌≡◌, ℕ, zero, suc, ◌+◌, ◌-◌, ◌*◌, ◌/◌, ◌%◌, ◌^◌, ◌<◌, ◌≤◌, List, [], ◌∷◌, ◌++◌, map, length, get_or, take, drop, replicate, sym, refl, ap, ◌∙◌, ap₂, le_refl, le_of_suc-le-suc, not-suc-le-zero, mul_comm, add_comm, pow-suc, div-mul-le_self, arith, lit<, length-append, length-drop, length-take, drop-drop, bit_xor}
 use Rattle.std.specs.Simd.{first_chunks}
 use Rattle.std.proofs.Math.Decide.{le_ind}
-use Rattle.std.proofs.Math.Nat.{min_comm}
+use Rattle.std.proofs.Math.Arith.{mod-mul}
+use Rattle.std.proofs.Math.Nat.{min_comm, mod-one}
 use Rattle.std.proofs.lemmas.Nat.{xor_block, xor_mod, xor_shr}
 use Rattle.std.specs.Simd.Lanes.{digits_l}
 use Rattle.std.proofs.lemmas.List.{drop_min, nil_from_length, take_min, drop-append-le, take-append-le}
@@ -74,6 +75,18 @@ pub length_digits : (n v : ℕ) → length (digits_l 256 n v) ≡ n
 length_digits zero v = refl
 length_digits (suc n) v = ap suc (length_digits n (v / 256))
 
+pub polynomial-digits : (n v : ℕ) → polynomial (digits_l 256 n v) ≡ v % 256 ^ n
+polynomial-digits zero v = sym (mod-one v)
+polynomial-digits (suc n) v =
+    ap (λ (k : ℕ). v % 256 + 256 * k) (polynomial-digits n (v / 256))
+    ∙ add_comm (v % 256) (256 * (v / 256 % 256 ^ n))
+    ∙ ap (λ (k : ℕ). k + v % 256) (mul_comm 256 (v / 256 % 256 ^ n))
+    ∙ sym (ap (λ (k : ℕ). v % k) (pow-suc 256 n) ∙ mod-mul v (some n) (lit< tt))
+  where
+    some : (n : ℕ) → 0 < 256 ^ n
+    some zero = lit< tt
+    some (suc n) = omega (arith, pow-suc 256 n, some n)
+
 pub sums-digits : (n v w : ℕ) → sums (digits_l 256 n v) (digits_l 256 n w) ≡ digits_l 256 n (v ⊕ w)
 sums-digits zero v w = refl
 sums-digits (suc n) v w =
@@ -102,11 +115,11 @@ enough : (n : ℕ) (xs : List ℕ) → length xs ≤ n → blocks_by n xs ≡ bl
 unfolding blocks
 enough n xs h = le_ind (λ (m : ℕ). blocks_by m xs ≡ blocks_by (length xs) xs) refl (λ m k e. more m xs k ∙ e) n h
 
-blocks_none : blocks [] ≡ []
+pub blocks_none : blocks [] ≡ []
 unfolding blocks blocks_by
 blocks_none = refl
 
-blocks_step : (xs : List ℕ) → 0 < length xs → blocks xs ≡ polynomial (take 16 xs) ∷ blocks (drop 16 xs)
+pub blocks_step : (xs : List ℕ) → 0 < length xs → blocks xs ≡ polynomial (take 16 xs) ∷ blocks (drop 16 xs)
 unfolding blocks blocks_by
 blocks_step [] h = absurd (not-suc-le-zero h)
 blocks_step (x ∷ xs) h =

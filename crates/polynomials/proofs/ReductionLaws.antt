@@ -50,7 +50,7 @@ divided_is v =
 
 -- ---- three products
 
-middle_is : (a b c d : ℕ) → product (a ⊕ b) (c ⊕ d) ⊕ product a c ⊕ product b d ≡ product a d ⊕ product b c
+pub middle_is : (a b c d : ℕ) → product (a ⊕ b) (c ⊕ d) ⊕ product a c ⊕ product b d ≡ product a d ⊕ product b c
 middle_is a b c d = simp (product-xor_l, product-xor_r, terms)
 
 blocks : (p q r s : ℕ) → product (p * 2 ^ 64 ⊕ q) (r * 2 ^ 64 ⊕ s) ≡ product p r * 2 ^ 128 ⊕ (product q r ⊕ product p s) * 2 ^ 64 ⊕ product q s

@@ -226,7 +226,7 @@ unfolding bit_at
 bit_none i = let some = pow.pow_pos (7 - i % 8) in ap (λ (k : ℕ). k % 2) (div-eq_of_lt some)
 
 -- the first n bits stay, and the others are zero
-bit-cleared : (n : ℕ) (xs : List ℕ) (i : ℕ) → bit_at (cleared n xs) i ≡ cond (ltb i n) (bit_at xs i) 0
+pub bit-cleared : (n : ℕ) (xs : List ℕ) (i : ℕ) → bit_at (cleared n xs) i ≡ cond (ltb i n) (bit_at xs i) 0
 bit-cleared n [] i = let none = bit_none i in cond_both (ltb i n) (bit_at [] i) 0 (λ (k : ℕ). bit_at [] i ≡ k) (λ e. refl) (λ e. none)
 bit-cleared n (x ∷ xs) i =
     ⊎_elim
@@ -266,7 +266,7 @@ cleared_by_bits n (x ∷ xs) h =
     (cleared_by_bits (n - 8) xs (λ i l. sym (bit_later x xs i) ∙ h (i + 8) (omega arith)))
 
 -- the test says whether each spare bit is zero
-clear_tells : (n : ℕ) (xs : List ℕ) → Decides (clear n xs) ((i : ℕ) → n ≤ i → bit_at xs i ≡ 0)
+pub clear_tells : (n : ℕ) (xs : List ℕ) → Decides (clear n xs) ((i : ℕ) → n ≤ i → bit_at xs i ≡ 0)
 clear_tells n xs = (
   λ e i l.
       ap (λ (ys : List ℕ). bit_at ys i) (sym ((same_tells (cleared n xs) xs).0 e))
