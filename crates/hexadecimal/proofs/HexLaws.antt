@@ -100,5 +100,5 @@ decoded_written (b ∷ bytes) h =
     let rest = decoded_written bytes (λ k d m. h (suc k) d (omega arith)) in
     rw (first, rest) refl
 
--- what the proof of `decode` rests on
+-- what the proofs of `read` and `decode` rest on
 pub ruleset decoding = (pairs_start, pairs_more, pairs_stop, pairs_end, none_from_test, decoded_written)
